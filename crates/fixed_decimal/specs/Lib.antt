@@ -1,0 +1,5 @@
+pub mod Decimals
+pub mod Rounding
+pub mod Reading
+pub mod Answers
+pub mod Parts

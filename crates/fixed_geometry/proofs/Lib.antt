@@ -1,0 +1,14 @@
+pub mod Integers
+pub mod Nearest
+pub mod EdgeLoops
+pub mod Parts
+pub mod Crossing
+pub mod Apart
+pub mod Symmetry
+pub mod Within
+pub mod Meeting
+pub mod Sides
+pub mod Parity
+pub mod Inside
+pub mod Least
+pub mod Placed

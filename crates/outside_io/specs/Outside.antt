@@ -1,0 +1,48 @@
+-- What a store and a sink tell, and what their calls answer. All of it is this project's own.
+use Rattle.std.specs.Prelude.{◌≡◌, ℕ, ◌+◌, ◌-◌, ◌^◌, ◌<◌, ◌≤◌, min, List, [], ◌∷◌, ◌++◌, length, take, Option, None, Some, Result, Ok, Err, Vec, ⊤, IsErrOf, IsSomeAnd}
+use Rattle.std.specs.declared.alloc.Global.{Global}
+use Rattle.std.specs.Ordering.{nat_cmp}
+use Rattle.std.specs.Cmp.Lexicographic.{slice_cmp}
+use Rattle.std.specs.FinMap.{FinMap, get}
+use Rattle.std.specs.Io.KnownBytes.{Appends}
+use Rattle.outside_io.specs.declared.TheConstants.{MAX_FILE}
+use Rattle.outside_io.specs.declared.LoadFault.{LoadFault}
+use Rattle.outside_io.specs.declared.LoadFault.TheVariants as load
+use Rattle.outside_io.specs.declared.SinkFault.{SinkFault}
+
+-- the files of a store: the bytes under each name
+abbrev pub Files : Type 0
+Files = FinMap (slice_cmp nat_cmp) (List ℕ)
+
+-- a count of faults rose, or stands at its type's end
+abbrev pub Rose : ℕ → ℕ → Type 0
+Rose before now = min (before + 1) (2 ^ 64 - 1) ≤ now
+
+-- the count never falls, and the fault comes only where it rose
+pub record HasCause {T E : Type 0} (before now : ℕ) (fault : E) (result : Result T E) : Type 0 where
+  pub later : before ≤ now
+  pub rose : IsErrOf result fault → Rose before now
+
+-- what a load answers over files that the store tells
+abbrev pub LoadAnswers : Option Files → List ℕ → Result (Vec ℕ Global) LoadFault → Type 0
+LoadAnswers None name answer = ⊤
+LoadAnswers (Some files) name (Ok bytes) = get files name ≡ Some bytes.items
+LoadAnswers (Some files) name (Err load.TooLong) = IsSomeAnd (get files name) (λ bytes. MAX_FILE < length bytes)
+LoadAnswers (Some files) name (Err load.Failed) = ⊤
+LoadAnswers (Some files) name (Err load.NoMemory) = ⊤
+
+-- the name of a failed load, and no other, joins the list
+abbrev pub RecordsFailure : List (List ℕ) → List (List ℕ) → List ℕ → Result (Vec ℕ Global) LoadFault → Type 0
+RecordsFailure old new name (Err load.Failed) = new ≡ old ++ name ∷ []
+RecordsFailure old new name (Err load.TooLong) = new ≡ old
+RecordsFailure old new name (Err load.NoMemory) = new ≡ old
+RecordsFailure old new name (Ok bytes) = new ≡ old
+
+-- some front of the bytes was appended, where the object tells it
+abbrev pub AppendsPrefix : Option (List ℕ) → Option (List ℕ) → List ℕ → Type 0
+AppendsPrefix old new bytes = (kept : ℕ) × Appends old new (take kept bytes)
+
+-- what a write leaves
+abbrev pub WriteAnswers : {T : Type 0} → Option (List ℕ) → Option (List ℕ) → List ℕ → Result T SinkFault → Type 0
+WriteAnswers old new bytes (Ok _) = Appends old new bytes
+WriteAnswers old new bytes (Err _) = AppendsPrefix old new bytes

@@ -1,0 +1,4 @@
+pub mod LineFiles
+pub mod Names
+pub mod Books
+pub mod Tables

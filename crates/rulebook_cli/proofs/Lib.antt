@@ -1,0 +1,5 @@
+pub mod BookAndTable
+pub mod Lines
+pub mod Fronts
+pub mod OneOutcome
+pub mod Answering

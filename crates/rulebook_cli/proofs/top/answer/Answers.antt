@@ -1,0 +1,9 @@
+use Rattle.std.proofs.Common.{sym}
+use Rattle.command_outcome.specs.Ends.{shelf}
+use Rattle.rulebook_cli.specs.Words.{texts}
+use Rattle.rulebook_cli.proofs.Answering.{no_reading_answers}
+use Rattle.rulebook_cli.proofs.top.answer.Goals as goal
+
+pub returns-in_default : goal.returns-in_default
+returns-in_default g c =
+    no_reading_answers (texts c.args.words.now) (shelf g.S.Store.held g.S.Store.faults g.S.Store.failed c.args.store.now) _ _ (sym c.in_default.ensures) c.said.ensures

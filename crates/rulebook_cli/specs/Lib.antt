@@ -1,0 +1,6 @@
+pub mod Words
+pub mod Inputs
+pub mod Pick
+pub mod Compare
+pub mod Due
+pub mod Laws

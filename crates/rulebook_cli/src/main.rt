@@ -1,0 +1,51 @@
+//! The program: words come in, and one text and one status go out.
+//!
+//! `run_rulebook` of `src/top.rt` is all that the program does, and its clauses say what that is. What is due to the words over the files stands in `specs/Due.antt`.
+//! Each command is a file of code, one of definitions and one of lemmas.
+#![tactic(auto)]
+
+mod comparing;
+mod inputs;
+mod laws;
+mod picking;
+#[cfg(test)]
+mod tests;
+mod top;
+mod words;
+
+use crate::top::run_rulebook;
+use command_outcome::Status;
+use outside_io::{FileStore, StdSink};
+use std::process::ExitCode;
+use std::{env, io};
+
+fn exit_status(status: Status) -> u8 {
+    match status {
+        Status::Done => 0,
+        Status::Refused => 1,
+        Status::Usage => 2,
+        Status::ReadFault => 3,
+        Status::WriteFault => 4,
+        Status::NoMemory => 5,
+    }
+}
+
+fn words_given(rt: &HostRuntime) -> io::Result<Vec<String>> {
+    env::args(rt)?
+        .skip(1)
+        .collect(rt.alloc())
+        .map_err(io::Error::from)
+}
+
+fn main(rt: HostRuntime) -> ExitCode {
+    match words_given(&rt) {
+        Ok(words) => {
+            let mut store = FileStore::new(&rt, rt.alloc());
+            let mut out = StdSink::new(&rt);
+            let status = run_rulebook(rt.alloc(), &words, &mut store, &mut out);
+            ExitCode::from(exit_status(status))
+        }
+        Err(error) if error.kind() == io::ErrorKind::OutOfMemory => ExitCode::from(5),
+        Err(_) => ExitCode::from(8),
+    }
+}

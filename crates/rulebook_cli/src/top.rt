@@ -1,0 +1,90 @@
+ghost use Rattle.std.specs.Prelude.{◌≡◌, ◌⊎◌};
+ghost use Rattle.std.specs.Io.KnownBytes.{Appends};
+ghost use Rattle.command_outcome.specs.Ends.{Answers, EndsCut, EndsDue, EndsUnread, IsComplete, IsDueStatus, Serves, paper, shelf};
+ghost use Rattle.rulebook_cli.specs.Words.{HasNoReading, request_of, texts};
+ghost use Rattle.rulebook_cli.specs.Due.{IsDue, IsDueTo, Reaches, ReachesFor};
+
+use crate::comparing::compare_rows;
+use crate::picking::pick;
+use crate::words::{Command, read_words};
+use command_outcome::{Reply, Status, Stop, deliver, said};
+use outside_io::{Sink, Store};
+use std::alloc::Global;
+
+/// Does the command's work.
+fn serve<S: Store>(alloc: Global, store: &mut S, command: Command<'_>) -> Result<Vec<u8>, Stop>
+    ensures { Serves (IsDueTo (request_of command.entry)) (ReachesFor (request_of command.entry))
+        (shelf S.held S.faults S.failed store.old) (shelf S.held S.faults S.failed store.new) result }
+{
+    match command {
+        Command::Pick { book, table } => pick(alloc, store, book, table),
+        Command::Compare { book, table } => compare_rows(alloc, store, book, table),
+    }
+}
+
+/// Reads the words, and does the work that they ask for.
+fn answer<S: Store>(alloc: Global, words: &[String], store: &mut S) -> Reply
+    ensures { Answers (IsDue (texts words.now)) (Reaches (texts words.now)) (HasNoReading (texts words.now))
+        (shelf S.held S.faults S.failed store.old) (shelf S.held S.faults S.failed store.new) result.status result.text.items }
+{
+    let Some(command) = read_words(words) else {
+        return said(alloc, Status::Usage, "usage: see --help\n");
+    };
+    match serve(alloc, store, command) {
+        Ok(text) => Reply {
+            status: Status::Done,
+            text,
+        },
+        Err(Stop::Refused(text)) => Reply {
+            status: Status::Refused,
+            text,
+        },
+        Err(Stop::Unread(role)) => said(alloc, Status::ReadFault, role.unread()),
+        Err(Stop::NoMemory) => Reply {
+            status: Status::NoMemory,
+            text: Vec::new(alloc),
+        },
+    }
+}
+
+/// Does all that the program does: reads the words, loads and reads the files, does the command's work, and
+/// writes one text. Nothing is written before the whole text is made.
+pub fn run_rulebook<S: Store, K: Sink>(
+    alloc: Global,
+    words: &[String],
+    store: &mut S,
+    out: &mut K,
+) -> Status
+    // The status is the due one; a due text was appended and nothing else; the files are as the due outcome says.
+    ensures due { IsDueStatus result → EndsDue (IsDue (texts words.now))
+        (shelf S.held S.faults S.failed store.old) (shelf S.held S.faults S.failed store.new) result
+        (Appends (K.written out.old) (K.written out.new)) }
+
+    // A file of the words couldn't be read, every one before it has a reading, and the text says which.
+    ensures read_fault { result ≡ Status.ReadFault → EndsUnread (Reaches (texts words.now))
+        (shelf S.held S.faults S.failed store.old) (shelf S.held S.faults S.failed store.new)
+        (Appends (K.written out.old) (K.written out.new)) }
+
+    // The sink failed on a due text, or on the one that says which file couldn't be read: a front of it was appended.
+    ensures write_fault { result ≡ Status.WriteFault →
+        EndsCut (IsDue (texts words.now)) (Reaches (texts words.now))
+        (shelf S.held S.faults S.failed store.old) (shelf S.held S.faults S.failed store.new)
+        (paper K.written K.faults out.old) (paper K.written K.faults out.new) }
+
+    // Memory ran out: nothing was done.
+    ensures no_memory { result ≡ Status.NoMemory →
+        (S.held store.new ≡ S.held store.old) × (K.written out.new ≡ K.written out.old) }
+
+    // Where no count of faults rose, the status is the due one, unless memory ran out.
+    ensures complete { IsComplete (IsDue (texts words.now))
+        (shelf S.held S.faults S.failed store.old) (shelf S.held S.faults S.failed store.new)
+        (paper K.written K.faults out.old) (paper K.written K.faults out.new) result }
+
+    // Words with no reading are told by their status alone, whatever the store.
+    ensures usage { result ≡ Status.Usage → HasNoReading (texts words.now) }
+    ensures bad_words { HasNoReading (texts words.now) →
+        (result ≡ Status.Usage) ⊎ (result ≡ Status.WriteFault) ⊎ (result ≡ Status.NoMemory) }
+{
+    let reply = answer(alloc, words, store);
+    deliver(out, &reply)
+}

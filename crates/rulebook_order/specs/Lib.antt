@@ -1,0 +1,13 @@
+pub mod Below
+pub mod Count
+pub mod Front
+pub mod NoWorse
+pub mod NoWorseBy
+pub mod NoWorseLaws
+pub mod NoWorseUnder
+pub mod PairLaws
+pub mod PairOrder
+pub mod Strict
+pub mod Sums
+pub mod VectorOrder
+pub mod Verdict
