@@ -1,0 +1,16 @@
+pub mod Places
+pub mod Marks
+pub mod PieceLaws
+pub mod Shrinks
+pub mod Tokens
+pub mod Attributes
+pub mod Distinct
+pub mod WithinLaws
+pub mod ReadLaws
+pub mod Siblings
+pub mod Trims
+pub mod ContentLaws
+pub mod Shapes
+pub mod Wholes
+pub mod FirstFaults
+pub mod Accepts

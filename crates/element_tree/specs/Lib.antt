@@ -1,0 +1,12 @@
+pub mod Pieces
+pub mod Bytes
+pub mod Tags
+pub mod Tokens
+pub mod State
+pub mod Documents
+pub mod Views
+pub mod Within
+pub mod Document
+pub mod Trees
+pub mod Contents
+pub mod Faults
