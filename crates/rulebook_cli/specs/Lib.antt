@@ -3,4 +3,5 @@ pub mod Inputs
 pub mod Pick
 pub mod Compare
 pub mod Due
+pub mod ExitStatus
 pub mod Laws

@@ -4,6 +4,9 @@
 //! Each command is a file of code, one of definitions and one of lemmas.
 #![tactic(auto)]
 
+ghost use Rattle.std.specs.Prelude.{◌≡◌};
+ghost use Rattle.rulebook_cli.specs.ExitStatus.{exit_number};
+
 mod comparing;
 mod inputs;
 mod laws;
@@ -19,7 +22,9 @@ use outside_io::{FileStore, StdSink};
 use std::process::ExitCode;
 use std::{env, io};
 
-fn exit_status(status: Status) -> u8 {
+fn exit_status(status: Status) -> u8
+    ensures { result ≡ exit_number status }
+{
     match status {
         Status::Done => 0,
         Status::Refused => 1,

@@ -1,0 +1,131 @@
+ghost use Rattle.std.specs.Prelude.{◌≡◌, ◌≤◌, ◌*◌, ◌^◌, ◌++◌, All, length, reverse, IfOk, IfErr};
+ghost use Rattle.fixed_geometry.specs.Plane.{IsInRange, IsWithin};
+ghost use Rattle.scenario_model.specs.Scenario.{IsBound};
+ghost use Rattle.lanelet_network.specs.Lanes.{lane_of, holds as does_hold, direction_at as direction_of, opposes as does_oppose, opposes_if_holding as does_oppose_if_holding};
+
+use crate::bound::{direction_along, dot};
+use crate::fault::NetworkFault;
+use fixed_geometry::{Point, Polygon, point_in};
+use scenario_model::Lanelet;
+use std::alloc::{AllocError, Global};
+use std::marker::Model;
+
+/// A lanelet as the network keeps it. The first corners of its polygon are its left bound.
+#[derive(Drop)]
+pub struct Lane {
+    id: u64,
+    polygon: Polygon,
+    left_count: usize,
+    successors: Vec<u64>,
+}
+
+impl Model for Lane {
+    ghost use Rattle.std.specs.Prelude.{◌≤◌, length, take};
+    ghost use Rattle.lanelet_network.specs.Lanes.{Lane as Shown};
+
+    ghost Value = { Shown };
+
+    ghost view = { λ l. record { id = l.id; left = take l.left_count l.polygon; corners = l.polygon; successors = l.successors.items } };
+
+    ghost invariant = { λ l. (2 ≤ l.left_count) × (l.left_count ≤ length l.polygon) };
+}
+
+// The left bound, and the right bound from its end.
+fn corners(alloc: Global, left: &[Point], right: &[Point]) -> Result<Vec<Point>, AllocError>
+    ensures { IfOk result (λ corners. corners.items ≡ left.now ++ reverse right.now) }
+{
+    left.iter()
+        .chain(right.iter().rev())
+        .copied()
+        .collect(alloc)
+}
+
+fn polygon(alloc: Global, left: &[Point], right: &[Point]) -> Result<Polygon, NetworkFault>
+    requires left { IsBound left.now }
+    requires right { IsBound right.now }
+    ensures ok { IfOk result (λ polygon. polygon ≡ left.now ++ reverse right.now) }
+    ensures fault { IfErr result (λ fault. fault ≡ NetworkFault.NoMemory) }
+{
+    match Polygon::new(corners(alloc, left, right)?) {
+        Ok(polygon) => Ok(polygon),
+        Err(_) => unreachable!(),
+    }
+}
+
+impl Lane {
+    /// The bounds of the lanelet have 2 to 2,048 points, of at most 10^11 in size.
+    pub fn new(alloc: Global, lanelet: &Lanelet) -> Result<Lane, NetworkFault>
+        requires left { IsBound lanelet.now.left }
+        requires right { IsBound lanelet.now.right }
+        ensures ok { IfOk result (λ lane. lane ≡ lane_of lanelet.now) }
+        ensures fault { IfErr result (λ fault. fault ≡ NetworkFault.NoMemory) }
+    {
+        let left = lanelet.left.as_slice();
+        let polygon = polygon(alloc, left, lanelet.right.as_slice())?;
+        let successors = lanelet.successors.as_slice().to_vec(alloc)?;
+        Ok(Lane {
+            id: lanelet.id,
+            polygon,
+            left_count: left.len(),
+            successors,
+        })
+    }
+
+    pub fn id(&self) -> u64
+        ensures { result ≡ self.now.id }
+    {
+        self.id
+    }
+
+    pub fn successors(&self) -> &[u64]
+        ensures { result.now ≡ self.now.successors }
+    {
+        self.successors.as_slice()
+    }
+
+    // The left bound.
+    fn left(&self) -> &[Point]
+        ensures value { result.now ≡ self.now.left }
+        ensures enough { 2 ≤ length result.now }
+        ensures in_range { All IsInRange result.now }
+    {
+        &self.polygon.corners()[..self.left_count]
+    }
+
+    /// Whether the lanelet's polygon holds the point.
+    pub fn holds(&self, point: Point) -> bool
+        requires { IsInRange point }
+        ensures { result ≡ does_hold point self.now }
+    {
+        point_in(point, self.polygon.corners())
+    }
+
+    /// How the lanelet leads at the point.
+    pub fn direction_at(&self, point: Point) -> Point
+        requires { IsInRange point }
+        ensures value { result ≡ direction_of self.now point }
+        ensures size { IsWithin (2 * 10 ^ 12) result }
+    {
+        direction_along(self.left(), point)
+    }
+
+    // Whether the lanelet leads more back than ahead at the point.
+    #[tactic(auto, unfolding(crate::specs::Lanes::opposes))]
+    fn opposes(&self, point: Point, ahead: Point) -> bool
+        requires point { IsInRange point }
+        requires ahead { IsWithin 1_000_000 ahead }
+        ensures { result ≡ does_oppose point ahead self.now }
+    {
+        dot(self.direction_at(point), ahead) < 0
+    }
+
+    /// Whether the lanelet leads more back than ahead at the point, or does not hold it.
+    #[tactic(auto, unfolding(crate::specs::Lanes::opposes_if_holding))]
+    pub fn opposes_if_holding(&self, point: Point, ahead: Point) -> bool
+        requires point { IsInRange point }
+        requires ahead { IsWithin 1_000_000 ahead }
+        ensures { result ≡ does_oppose_if_holding point ahead self.now }
+    {
+        !self.holds(point) || self.opposes(point, ahead)
+    }
+}

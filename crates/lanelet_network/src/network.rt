@@ -1,0 +1,172 @@
+ghost use Rattle.std.specs.Prelude.{◌≡◌, ◌<◌, ◌≤◌, ◌*◌, ◌^◌, length, slice_index, unsigned_abs, IfOk, IfErr};
+ghost use Rattle.std.specs.List.{position, list_any, list_all};
+ghost use Rattle.fixed_geometry.specs.Plane.{IsInRange, IsWithin};
+ghost use Rattle.scenario_model.specs.Scenario.{IsScenario, lanelet_ids};
+ghost use Rattle.lanelet_network.specs.Lanes.{lanes_of, lane_ids, has_id, IsUnknown, IsOfLanelet, holds as does_hold, count_at as count_of, direction_at as direction_of, is_against, opposes_if_holding as does_oppose_if_holding};
+
+use crate::fault::NetworkFault;
+use crate::lane::Lane;
+use fixed_geometry::{Point, direction};
+use scenario_model::Scenario;
+use std::alloc::Global;
+use std::marker::Model;
+
+/// The lanelets of a scenario, in document order.
+///
+/// Lengths are in 0.1 mm, and points are at most 10^12 in size.
+#[derive(Drop)]
+pub struct Network {
+    lanes: Vec<Lane>,
+}
+
+impl Model for Network {
+    ghost use Rattle.std.specs.Prelude.{◌≤◌, List, length};
+    ghost use Rattle.lanelet_network.specs.Lanes.{Lane as Shown, HaveOwnIds};
+
+    ghost Value = { List Shown };
+
+    ghost view = { λ n. n.lanes.items };
+
+    ghost invariant = { λ n. (length n.lanes.items ≤ 4000) × HaveOwnIds n.lanes.items };
+}
+
+impl Network {
+    /// The network of a scenario that is well formed. It is refused for want of memory alone.
+    pub fn new(alloc: Global, scenario: &Scenario) -> Result<Network, NetworkFault>
+        requires { IsScenario scenario.now }
+        ensures ok { IfOk result (λ network. network ≡ lanes_of scenario.now) }
+        ensures ids { IfOk result (λ network. lane_ids network ≡ lanelet_ids scenario.now) }
+        ensures fault { IfErr result (λ fault. fault ≡ NetworkFault.NoMemory) }
+    {
+        let mut lanes = Vec::new(alloc);
+        for lanelet in scenario.lanelets.as_slice() {
+            lanes.push(Lane::new(alloc, lanelet)?)?;
+        }
+        Ok(Network { lanes })
+    }
+
+    // The place of the first lanelet with the id.
+    fn position(&self, id: u64) -> Option<usize>
+        ensures value { result ≡ position (has_id id) self.now }
+        ensures few { length self.now ≤ 4000 }
+    {
+        self.lanes.iter().position(|lane| lane.id() == id)
+    }
+
+    // The place of the lanelet with the id, or that there is none.
+    fn place(&self, id: u64) -> Result<usize, NetworkFault>
+        ensures within { IfOk result (λ place. place < length self.now) }
+        ensures id { IfOk result (λ place. slice_index (lane_ids self.now) place ≡ id) }
+        ensures few { length self.now ≤ 4000 }
+        ensures unknown { IfErr result (IsUnknown self.now id) }
+    {
+        match self.position(id) {
+            Some(place) => Ok(place),
+            None => Err(NetworkFault::UnknownLanelet),
+        }
+    }
+
+    // The lanelet with the id.
+    fn lane(&self, id: u64) -> Result<&Lane, NetworkFault>
+        ensures value { IfOk result (λ lane. IsOfLanelet self.now id (λ other. other ≡ lane.now)) }
+        ensures unknown { IfErr result (IsUnknown self.now id) }
+    {
+        let place = self.place(id)?;
+        Ok(&self.lanes[place])
+    }
+
+    /// Whether the polygon of the lanelet with the id holds the point.
+    pub fn holds(&self, id: u64, point: Point) -> Result<bool, NetworkFault>
+        requires { IsInRange point }
+        ensures value { IfOk result (λ answer. IsOfLanelet self.now id (λ lane. answer ≡ does_hold point lane)) }
+        ensures unknown { IfErr result (IsUnknown self.now id) }
+    {
+        Ok(self.lane(id)?.holds(point))
+    }
+
+    /// The direction of the lanelet with the id at the point: how its left bound leads at its first point at the least distance.
+    ///
+    /// It is the way from that point to the next, and for the last point the way from the one before it.
+    pub fn direction_at(&self, id: u64, point: Point) -> Result<Point, NetworkFault>
+        requires { IsInRange point }
+        ensures value { IfOk result (λ way. IsOfLanelet self.now id (λ lane. way ≡ direction_of lane point)) }
+        ensures size { IfOk result (IsWithin (2 * 10 ^ 12)) }
+        ensures unknown { IfErr result (IsUnknown self.now id) }
+    {
+        Ok(self.lane(id)?.direction_at(point))
+    }
+
+    /// The ids of the known lanelets that follow the one with the id, in document order.
+    pub fn successors(&self, id: u64) -> Result<&[u64], NetworkFault>
+        ensures value { IfOk result (λ ids. IsOfLanelet self.now id (λ lane. ids.now ≡ lane.successors)) }
+        ensures unknown { IfErr result (IsUnknown self.now id) }
+    {
+        Ok(self.lane(id)?.successors())
+    }
+
+    /// The place of the lanelet with the id, counted from 0.
+    pub fn index_of(&self, id: u64) -> Result<u32, NetworkFault>
+        ensures within { IfOk result (λ index. index < length self.now) }
+        ensures below { IfOk result (λ index. index < 4000) }
+        ensures value { IfOk result (λ index. slice_index (lane_ids self.now) index ≡ id) }
+        ensures unknown { IfErr result (IsUnknown self.now id) }
+    {
+        let place = self.place(id)?;
+        Ok(place as u32)
+    }
+
+    /// The id of the lanelet at the index, which is below the number of lanelets.
+    pub fn id_at(&self, index: u32) -> u64
+        requires { index < length self.now }
+        ensures value { result ≡ slice_index (lane_ids self.now) index }
+    {
+        let lane = &self.lanes[index as usize];
+        lane.id()
+    }
+
+    // Whether some lanelet holds the point.
+    fn is_held(&self, point: Point) -> bool
+        requires { IsInRange point }
+        ensures { result ≡ list_any (does_hold point) self.now }
+    {
+        self.lanes.iter().any(|lane| lane.holds(point))
+    }
+
+    // Whether each lanelet that holds the point leads more back than ahead there.
+    fn all_oppose(&self, point: Point, ahead: Point) -> bool
+        requires point { IsInRange point }
+        requires ahead { IsWithin 1_000_000 ahead }
+        ensures { result ≡ list_all (does_oppose_if_holding point ahead) self.now }
+    {
+        self.lanes
+            .iter()
+            .all(|lane| lane.opposes_if_holding(point, ahead))
+    }
+
+    /// How many lanelets hold the point.
+    pub fn count_at(&self, point: Point) -> u32
+        requires { IsInRange point }
+        ensures value { result ≡ count_of self.now point }
+        ensures few { result ≤ 4000 }
+    {
+        let mut count = 0;
+        for lane in &self.lanes {
+            if lane.holds(point) {
+                count += 1;
+            }
+        }
+        count
+    }
+
+    /// Whether some lanelet holds the point, and in each that does the way ahead has a negative dot product with the lanelet's direction.
+    ///
+    /// The heading is in microradians, at most 4 * 10^9 in size.
+    #[tactic(auto, unfolding(crate::specs::Lanes::is_against))]
+    pub fn against(&self, point: Point, heading: i64) -> bool
+        requires point { IsInRange point }
+        requires heading { unsigned_abs heading ≤ 4 * 10 ^ 9 }
+        ensures value { result ≡ is_against self.now point heading }
+    {
+        self.is_held(point) && self.all_oppose(point, direction(heading))
+    }
+}

@@ -1,0 +1,293 @@
+ghost use Rattle.std.specs.Prelude.{◌≡◌, ◌<◌, ◌≤◌, ◌^◌, List as Items, length, map, ℕ, All, IfOk};
+ghost use Rattle.fixed_geometry.specs.Plane.{IsInRange};
+ghost use Rattle.scenario_model.specs.declared.lanelet.Lanelet.{Lanelet as Piece};
+ghost use Rattle.scenario_model.specs.Scenario.{IsRead, IsBound, IsLanelet, IsProblem, IsScenario, HaveDifferentIds};
+
+use crate::{Network, NetworkFault};
+use fixed_geometry::Point;
+use preorder::{List, NoMemory};
+use scenario_model::{Goal, Lanelet, Pose, Problem, Scenario, Version};
+use std::alloc::Global;
+use std::test::Fail;
+
+const HALF_TURN: i64 = 3_141_592;
+
+fn at(x: i32, y: i32) -> Point
+    ensures read { IsRead result }
+    ensures in_range { IsInRange result }
+{
+    Point {
+        x: i64::from(x),
+        y: i64::from(y),
+    }
+}
+
+fn bound(alloc: Global, points: &[(i32, i32)]) -> Result<List<Point>, NoMemory>
+    requires enough { 2 ≤ length points.now }
+    requires few { length points.now ≤ 2048 }
+    ensures { IfOk result IsBound }
+{
+    let mut bound = List::new(alloc);
+    for (x, y) in points {
+        bound.push(at(*x, *y))?;
+    }
+    Ok(bound)
+}
+
+fn segment(alloc: Global, from: Point, to: Point) -> Result<List<Point>, NoMemory>
+    requires from { IsRead from }
+    requires to { IsRead to }
+    ensures { IfOk result IsBound }
+{
+    let mut bound = List::new(alloc);
+    bound.push(from)?;
+    bound.push(to)?;
+    Ok(bound)
+}
+
+// Points that are 10 apart.
+fn row(alloc: Global, count: u16, y: i32) -> Result<List<Point>, NoMemory>
+    requires enough { 2 ≤ count }
+    requires few { count ≤ 2048 }
+    ensures { IfOk result IsBound }
+{
+    let mut bound = List::new(alloc);
+    for i in 0..count {
+        bound.push(at(10 * i32::from(i), y))?;
+    }
+    Ok(bound)
+}
+
+fn problem(alloc: Global) -> Result<Problem, NoMemory>
+    ensures { IfOk result (λ problem. (ids : Items ℕ) → IsProblem ids problem) }
+{
+    let mut goals = List::new(alloc);
+    goals.push(Goal {
+        first_tick: 1,
+        last_tick: 1,
+        regions: List::new(alloc),
+        heading: None,
+        speed: None,
+    })?;
+    let start = Pose {
+        tick: 0,
+        position: at(0, 0),
+        heading: 0,
+        speed: 10_000,
+    };
+    Ok(Problem {
+        id: 9,
+        start,
+        goals,
+    })
+}
+
+fn scenario(alloc: Global, lanelets: List<Lanelet>) -> Result<Scenario, NoMemory>
+    requires few { length lanelets ≤ 4000 }
+    requires each { All (IsLanelet (map (λ (l : Piece). l.id) lanelets)) lanelets }
+    requires different { HaveDifferentIds (λ (l : Piece). l.id) lanelets }
+    ensures well_formed { IfOk result IsScenario }
+    ensures lanelets { IfOk result (λ scenario. scenario.lanelets ≡ lanelets) }
+{
+    let mut problems = List::new(alloc);
+    problems.push(problem(alloc)?)?;
+    Ok(Scenario {
+        version: Version::V2020a,
+        step_micros: 100_000,
+        lanelets,
+        obstacles: List::new(alloc),
+        problems,
+    })
+}
+
+// The network of one lanelet, which has no neighbour.
+fn alone(alloc: Global, id: u64, left: List<Point>, right: List<Point>) -> Result<Network, Fail>
+    requires id { id < 10 ^ 18 }
+    requires left { IsBound left }
+    requires right { IsBound right }
+    ensures { IfOk result (λ network. length network ≡ 1) }
+{
+    let mut lanelets = List::new(alloc);
+    lanelets.push(Lanelet {
+        id,
+        left,
+        right,
+        predecessors: List::new(alloc),
+        successors: List::new(alloc),
+        adjacent_left: None,
+        adjacent_right: None,
+    })?;
+    Ok(Network::new(alloc, &scenario(alloc, lanelets)?)?)
+}
+
+// A lanelet of 200 m, straight along x.
+fn straight(alloc: Global) -> Result<Network, Fail>
+    ensures { IfOk result (λ network. length network ≡ 1) }
+{
+    let left = bound(alloc, &[(-500_000, 20_000), (1_500_000, 20_000)])?;
+    let right = bound(alloc, &[(-500_000, -20_000), (1_500_000, -20_000)])?;
+    alone(alloc, 1, left, right)
+}
+
+// A lanelet that leads along x, and one that comes to meet it where x is 1,000.
+fn two_that_meet(alloc: Global) -> Result<Network, Fail>
+    ensures { IfOk result (λ network. length network ≡ 2) }
+{
+    let mut successors = List::new(alloc);
+    successors.push(9)?;
+    let mut predecessors = List::new(alloc);
+    predecessors.push(4)?;
+    let mut lanelets = List::new(alloc);
+    lanelets.push(Lanelet {
+        id: 4,
+        left: bound(alloc, &[(0, 10), (1_000, 10)])?,
+        right: bound(alloc, &[(0, -10), (1_000, -10)])?,
+        predecessors: List::new(alloc),
+        successors,
+        adjacent_left: None,
+        adjacent_right: None,
+    })?;
+    lanelets.push(Lanelet {
+        id: 9,
+        left: bound(alloc, &[(2_000, -10), (1_000, -10)])?,
+        right: bound(alloc, &[(2_000, 10), (1_000, 10)])?,
+        predecessors,
+        successors: List::new(alloc),
+        adjacent_left: None,
+        adjacent_right: None,
+    })?;
+    Ok(Network::new(alloc, &scenario(alloc, lanelets)?)?)
+}
+
+#[test]
+fn a_lanelet_holds_its_border(rt: HostRuntime) -> Result<(), Fail> {
+    let network = straight(rt.alloc())?;
+    let rows = [
+        (0, 0, true),
+        (0, 20_000, true),
+        (0, 20_001, false),
+        (1_500_000, -20_000, true),
+        (-500_001, 0, false),
+    ];
+    for (x, y, is_held) in rows {
+        let point = at(x, y);
+        assert_eq!(rt; network.holds(1, point)?, is_held);
+        assert_eq!(rt; network.count_at(point), u32::from(is_held));
+    }
+    Ok(())
+}
+
+#[test]
+fn an_id_that_no_lanelet_has_is_unknown(rt: HostRuntime) -> Result<(), Fail> {
+    let network = straight(rt.alloc())?;
+    let fault = Some(NetworkFault::UnknownLanelet);
+    assert_eq!(rt; network.holds(7, at(0, 0)).err(), fault);
+    assert_eq!(rt; network.direction_at(7, at(0, 0)).err(), fault);
+    assert_eq!(rt; network.successors(7).err(), fault);
+    assert_eq!(rt; network.index_of(7).err(), fault);
+    assert_eq!(rt; network.successors(1)?.len(), 0);
+    Ok(())
+}
+
+#[test]
+fn a_lanelet_may_lie_far_away(rt: HostRuntime) -> Result<(), Fail> {
+    let alloc = rt.alloc();
+    let left = segment(
+        alloc,
+        Point {
+            x: 6_899_500_000,
+            y: 53_340_025_000,
+        },
+        Point {
+            x: 6_901_000_000,
+            y: 53_340_025_000,
+        },
+    )?;
+    let right = segment(
+        alloc,
+        Point {
+            x: 6_899_500_000,
+            y: 53_339_985_000,
+        },
+        Point {
+            x: 6_901_000_000,
+            y: 53_339_985_000,
+        },
+    )?;
+    let network = alone(alloc, 1, left, right)?;
+    let point = Point {
+        x: 6_900_001_234,
+        y: 53_340_005_000,
+    };
+    assert_eq!(rt; network.count_at(point), 1);
+    assert_eq!(rt; network.direction_at(1, point)?, at(1_500_000, 0));
+    assert_eq!(rt; network.successors(1)?.len(), 0);
+    assert_eq!(rt;
+        network.successors(7).err(),
+        Some(NetworkFault::UnknownLanelet)
+    );
+    Ok(())
+}
+
+#[test]
+fn lanelets_have_places_and_successors(rt: HostRuntime) -> Result<(), Fail> {
+    let network = two_that_meet(rt.alloc())?;
+    assert_eq!(rt; network.index_of(4)?, 0);
+    assert_eq!(rt; network.index_of(9)?, 1);
+    assert_eq!(rt; network.id_at(0), 4);
+    assert_eq!(rt; network.id_at(1), 9);
+    assert_eq!(rt; network.successors(4)?, [9].as_slice());
+    assert_eq!(rt; network.successors(9)?.len(), 0);
+    assert_eq!(rt; network.count_at(at(1_000, 0)), 2);
+    Ok(())
+}
+
+#[test]
+fn a_heading_is_against_all_lanelets_that_hold_the_point(rt: HostRuntime) -> Result<(), Fail> {
+    let one = straight(rt.alloc())?;
+    assert!(rt; one.against(at(0, 0), HALF_TURN));
+    assert!(rt; !one.against(at(0, 0), 0));
+    assert!(rt; !one.against(at(0, 20_001), HALF_TURN));
+    let two = two_that_meet(rt.alloc())?;
+    let rows = [
+        (500, true, false),
+        (1_000, false, false),
+        (1_500, false, true),
+    ];
+    for (x, back, ahead) in rows {
+        assert_eq!(rt; two.against(at(x, 0), HALF_TURN), back);
+        assert_eq!(rt; two.against(at(x, 0), 0), ahead);
+    }
+    Ok(())
+}
+
+#[test]
+fn the_first_nearest_point_of_the_left_bound_gives_the_direction(
+    rt: HostRuntime,
+) -> Result<(), Fail> {
+    let alloc = rt.alloc();
+    let left = bound(alloc, &[(0, 0), (100, 0), (100, 100)])?;
+    let right = bound(alloc, &[(0, -100), (200, -100), (200, 100)])?;
+    let network = alone(alloc, 1, left, right)?;
+    let rows = [
+        (0, 0, 100, 0),
+        (50, 0, 100, 0),
+        (51, 0, 0, 100),
+        (100, 50, 0, 100),
+        (100, 100, 0, 100),
+    ];
+    for (x, y, dx, dy) in rows {
+        assert_eq!(rt; network.direction_at(1, at(x, y))?, at(dx, dy));
+    }
+    Ok(())
+}
+
+#[test]
+fn a_bound_may_have_2048_points(rt: HostRuntime) -> Result<(), Fail> {
+    let alloc = rt.alloc();
+    let network = alone(alloc, 1, row(alloc, 2_048, 10)?, row(alloc, 2_048, -10)?)?;
+    assert_eq!(rt; network.count_at(at(20_470, 0)), 1);
+    assert_eq!(rt; network.count_at(at(20_471, 0)), 0);
+    assert_eq!(rt; network.direction_at(1, at(30_000, 0))?, at(10, 0));
+    Ok(())
+}
