@@ -2,6 +2,8 @@ ghost use Rattle.std.specs.Prelude.{◌≡◌};
 
 use crate::{FileStore, LoadFault, MemorySink, MemoryStore, Sink, SinkFault, StdSink, Store};
 use std::alloc::Global;
+use std::fs;
+use std::io::Write;
 use std::test::Fail;
 
 /// What a store answers to a load, through the trait's bound.
@@ -38,6 +40,18 @@ fn a_sink_in_memory_takes_what_fits(rt: HostRuntime) -> Result<(), Fail> {
     assert_eq!(rt; sink.written(), b"abcd".as_slice());
     assert_eq!(rt; sink.write(b"efgh"), Err(SinkFault::Failed));
     assert_eq!(rt; sink.written(), b"abcdefg".as_slice());
+    Ok(())
+}
+
+#[test]
+fn a_file_that_is_there_is_loaded(rt: HostRuntime) -> Result<(), Fail> {
+    let mut file = fs::create(&rt, "kept")?;
+    assert_eq!(rt; file.write(b"some bytes")?, 10);
+    drop(file);
+    let mut store = FileStore::new(&rt, rt.alloc());
+    let bytes = store.load(rt.alloc(), "kept").ok().ok_or("there")?;
+    assert_eq!(rt; bytes.as_slice(), b"some bytes".as_slice());
+    fs::remove_file(&rt, "kept")?;
     Ok(())
 }
 

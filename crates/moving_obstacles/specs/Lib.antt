@@ -1,0 +1,4 @@
+pub mod Placing
+pub mod Occupancy
+pub mod Nearness
+pub mod Tracks

@@ -1,0 +1,15 @@
+//! The moving and the standing obstacles of a scenario, per tick: their placed shapes, and how near they are.
+//!
+//! The layer above uses the clauses `value` of the calls of `Traffic`: each answer is that over all obstacles of the scenario.
+//! The definitions stand in `specs/Placing.antt`, `specs/Occupancy.antt` and `specs/Nearness.antt`; what a `Traffic` is seen as, in `specs/Tracks.antt`.
+#![tactic(auto)]
+
+mod ahead;
+mod nearness;
+mod placing;
+#[cfg(test)]
+mod tests;
+mod track;
+mod traffic;
+
+pub use traffic::Traffic;

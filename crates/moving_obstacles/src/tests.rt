@@ -1,0 +1,225 @@
+ghost use Rattle.std.specs.Prelude.{◌≤◌, ◌^◌, All, length, unsigned_abs, [], IfOk};
+ghost use Rattle.fixed_geometry.specs.Plane.{IsWithin};
+ghost use Rattle.scenario_model.specs.Scenario.{IsRead, IsShape, IsPose, IsStateCount, IsObstacle, IsProblem, IsScenario};
+
+use crate::Traffic;
+use fixed_geometry::{Point, bounds, rectangle_at};
+use preorder::{List, NoMemory};
+use scenario_model::{Goal, Obstacle, Pose, Problem, Scenario, Shape, Version};
+use std::alloc::Global;
+use std::test::Fail;
+
+fn at(x: i32, y: i32) -> Point
+    ensures { IsRead result }
+{
+    Point {
+        x: i64::from(x),
+        y: i64::from(y),
+    }
+}
+
+fn pose(tick: u16, position: Point, heading: i64) -> Pose
+    requires position { IsRead position }
+    requires heading { unsigned_abs heading ≤ 10 ^ 9 }
+    ensures { IsPose result }
+{
+    Pose {
+        tick: u32::from(tick),
+        position,
+        heading,
+        speed: 0,
+    }
+}
+
+fn car() -> Shape
+    ensures { IsShape result }
+{
+    Shape::Rectangle {
+        length: 45_000,
+        width: 18_000,
+        heading: 0,
+        center: at(0, 0),
+    }
+}
+
+fn problem(alloc: Global) -> Result<Problem, NoMemory>
+    ensures { IfOk result (IsProblem []) }
+{
+    let mut goals = List::new(alloc);
+    goals.push(Goal {
+        first_tick: 0,
+        last_tick: 0,
+        regions: List::new(alloc),
+        heading: None,
+        speed: None,
+    })?;
+    Ok(Problem {
+        id: 1,
+        start: pose(0, at(0, 0), 0),
+        goals,
+    })
+}
+
+fn road(alloc: Global, obstacles: List<Obstacle>) -> Result<Scenario, NoMemory>
+    requires few { length obstacles ≤ 1 }
+    requires obstacles { All IsObstacle obstacles }
+    ensures { IfOk result IsScenario }
+{
+    let mut problems = List::new(alloc);
+    problems.push(problem(alloc)?)?;
+    Ok(Scenario {
+        version: Version::V2020a,
+        step_micros: 100_000,
+        lanelets: List::new(alloc),
+        obstacles,
+        problems,
+    })
+}
+
+fn obstacle(
+    alloc: Global,
+    moving: bool,
+    shape: Shape,
+    states: List<Pose>,
+) -> Result<Obstacle, NoMemory>
+    requires shape { IsShape shape }
+    requires states { All IsPose states }
+    requires count { IsStateCount moving (length states) }
+    ensures { IfOk result IsObstacle }
+{
+    let mut shapes = List::new(alloc);
+    shapes.push(shape)?;
+    Ok(Obstacle {
+        id: 1,
+        moving,
+        shapes,
+        states,
+    })
+}
+
+// The traffic of one obstacle that stands.
+fn standing(alloc: Global, shape: Shape, state: Pose) -> Result<Traffic, NoMemory>
+    requires shape { IsShape shape }
+    requires state { IsPose state }
+{
+    let mut states = List::new(alloc);
+    states.push(state)?;
+    let mut obstacles = List::new(alloc);
+    obstacles.push(obstacle(alloc, false, shape, states)?)?;
+    let scenario = road(alloc, obstacles)?;
+    Traffic::new(alloc, &scenario)
+}
+
+// The traffic of one car that moves from one pose to another.
+fn moving(alloc: Global, from: Pose, to: Pose) -> Result<Traffic, NoMemory>
+    requires from { IsPose from }
+    requires to { IsPose to }
+{
+    let mut states = List::new(alloc);
+    states.push(from)?;
+    states.push(to)?;
+    let mut obstacles = List::new(alloc);
+    obstacles.push(obstacle(alloc, true, car(), states)?)?;
+    let scenario = road(alloc, obstacles)?;
+    Traffic::new(alloc, &scenario)
+}
+
+#[test]
+fn a_standing_car_is_ahead_met_or_behind(rt: HostRuntime) -> Result<(), Fail> {
+    let traffic = standing(rt.alloc(), car(), pose(0, at(100_000, 0), 0))?;
+    let rows = [
+        (0, 0, 55_000, 100_000),
+        (55_000, 1, 0, 45_000),
+        (200_000, 0, 55_000, 10_000_000),
+    ];
+    for (x, met, gap, ahead) in rows {
+        let ego = rectangle_at(at(x, 0), 0, 45_000, 18_000);
+        assert_eq!(rt; traffic.meeting(&ego, 0), met);
+        assert_eq!(rt; traffic.nearest_gap(bounds(&ego), 0), gap);
+        assert_eq!(rt; traffic.headway(at(x, 0), 0, 18_000, 0), ahead);
+    }
+    Ok(())
+}
+
+#[test]
+fn an_empty_road_is_free(rt: HostRuntime) -> Result<(), Fail> {
+    let scenario = road(rt.alloc(), List::new(rt.alloc()))?;
+    let traffic = Traffic::new(rt.alloc(), &scenario)?;
+    let ego = rectangle_at(at(0, 0), 0, 45_000, 18_000);
+    assert_eq!(rt; traffic.count(), 0);
+    assert_eq!(rt; traffic.meeting(&ego, 0), 0);
+    assert_eq!(rt; traffic.nearest_gap(bounds(&ego), 0), 10_000_000);
+    assert_eq!(rt; traffic.headway(at(0, 0), 0, 18_000, 0), 10_000_000);
+    Ok(())
+}
+
+#[test]
+fn a_moving_car_is_there_at_the_ticks_of_its_states(rt: HostRuntime) -> Result<(), Fail> {
+    let rows = [
+        (1, 0, Some(1)),
+        (1, 1, Some(1)),
+        (1, 2, None),
+        (2, 1, None),
+        (2, 2, Some(1)),
+    ];
+    for (last, tick, shapes) in rows {
+        let from = pose(0, at(0, 0), 0);
+        let to = pose(last, at(100_000, 0), 0);
+        let traffic = moving(rt.alloc(), from, to)?;
+        assert_eq!(rt; traffic.count(), 1);
+        assert_eq!(rt;
+            traffic.occupancy(0, tick).map(|shapes| shapes.len()),
+            shapes
+        );
+    }
+    Ok(())
+}
+
+#[test]
+fn the_first_of_two_states_at_a_tick_counts(rt: HostRuntime) -> Result<(), Fail> {
+    let first = pose(0, at(100_000, 0), 0);
+    let second = pose(0, at(50_000, 0), 0);
+    let traffic = moving(rt.alloc(), first, second)?;
+    assert_eq!(rt; traffic.headway(at(0, 0), 0, 18_000, 0), 100_000);
+    Ok(())
+}
+
+#[test]
+fn a_corner_that_touches_meets(rt: HostRuntime) -> Result<(), Fail> {
+    let ego = rectangle_at(at(0, 0), 0, 45_000, 18_000);
+    for (x, met) in [(22_500, 1), (22_501, 0)] {
+        let mut corners = List::new(rt.alloc());
+        corners.push(at(x, 9_000))?;
+        corners.push(at(40_000, 9_000))?;
+        corners.push(at(40_000, 20_000))?;
+        let traffic = standing(rt.alloc(), Shape::Corners { corners }, pose(0, at(0, 0), 0))?;
+        assert_eq!(rt; traffic.meeting(&ego, 0), met);
+    }
+    Ok(())
+}
+
+#[test]
+fn an_obstacle_beside_the_way_is_not_ahead(rt: HostRuntime) -> Result<(), Fail> {
+    for (y, ahead) in [(18_000, 100_000), (-18_000, 100_000), (18_001, 10_000_000)] {
+        let traffic = standing(rt.alloc(), car(), pose(0, at(100_000, y), 0))?;
+        assert_eq!(rt; traffic.headway(at(0, 0), 0, 18_000, 0), ahead);
+    }
+    Ok(())
+}
+
+#[test]
+fn a_shape_turns_with_its_obstacle(rt: HostRuntime) -> Result<(), Fail> {
+    let shape = Shape::Rectangle {
+        length: 4,
+        width: 2,
+        heading: 0,
+        center: at(10, 0),
+    };
+    let traffic = standing(rt.alloc(), shape, pose(0, at(100, 200), 1_570_796))?;
+    assert_eq!(rt; traffic.count(), 1);
+    let shapes = traffic.occupancy(0, 7).ok_or("no shapes")?;
+    let placed = [at(101, 208), at(101, 212), at(99, 212), at(99, 208)];
+    assert_eq!(rt; shapes.len(), 1);
+    assert_eq!(rt; shapes[0].corners(), placed.as_slice());
+    Ok(())
+}

@@ -1,0 +1,172 @@
+ghost use Rattle.std.specs.Prelude.{◌≡◌, ◌<◌, ◌≤◌, ◌≤ℤ◌, ◌*◌, ◌^◌, pos, unsigned_abs, All, length, map, count_by, slice_get, option_and_then, IfOk};
+ghost use Rattle.std.specs.List.{flat_map};
+ghost use Rattle.std.specs.Option.{option_copied};
+ghost use Rattle.fixed_geometry.specs.Plane.{IsWithin, IsInRange};
+ghost use Rattle.fixed_geometry.specs.Boxes.{IsBoxInRange};
+ghost use Rattle.fixed_geometry.specs.Polygon.{IsCornerList};
+ghost use Rattle.scenario_model.specs.Scenario.{IsObstacle, IsScenario};
+ghost use Rattle.moving_obstacles.specs.Occupancy.{occupancy};
+ghost use Rattle.moving_obstacles.specs.Nearness.{is_met, gaps, distances, least, IsLeast, meeting, all_gaps, nearest_gap, all_distances, headway};
+ghost use Rattle.moving_obstacles.specs.Tracks.{track_of, IsTrafficOf, ForObstacles, shapes_in, pose_in};
+
+use crate::ahead::least_distance;
+use crate::track::Track;
+use fixed_geometry::{Box2, Point, Polygon, direction};
+use preorder::{List, NoMemory};
+use scenario_model::{Obstacle, Scenario};
+use std::alloc::Global;
+use std::marker::Model;
+
+/// The farthest that is told apart, in 0.1 mm.
+const FARTHEST: i64 = 10_000_000;
+
+// How many of the obstacles meet the polygon at the tick.
+fn count_met(tracks: &[Track], ego: &[Point], tick: u32) -> usize
+    requires { IsCornerList ego.now }
+    ensures value { result ≡ count_by (λ t. is_met ego.now (shapes_in t tick)) tracks.now }
+    ensures most { result ≤ length tracks.now }
+{
+    tracks
+        .iter()
+        .filter(|track| track.is_met(ego, tick))
+        .count()
+}
+
+// The least gap to one of the obstacles at the tick.
+#[tactic(auto, unfolding(crate::specs::Nearness::least))]
+fn least_gap_of_all(tracks: &[Track], ego: Box2, tick: u32) -> i64
+    requires { IsBoxInRange ego }
+    ensures value { result ≡ least (flat_map (λ t. gaps ego (shapes_in t tick)) tracks.now) }
+    ensures low { pos 0 ≤ℤ result }
+    ensures high { result ≤ℤ pos 10_000_000 }
+{
+    let mut nearest = FARTHEST;
+    for track in tracks {
+        nearest = track.least_gap(ego, tick, nearest);
+    }
+    nearest
+}
+
+// The least distance to one of the obstacles that are ahead at the tick.
+#[tactic(auto, unfolding(crate::specs::Nearness::least))]
+fn least_distance_of_all(
+    tracks: &[Track],
+    position: Point,
+    unit: Point,
+    width: i64,
+    tick: u32,
+) -> i64
+    requires { IsWithin (10 ^ 6) unit }
+    ensures value { result ≡ least (flat_map (λ t. distances position unit width (pose_in t tick)) tracks.now) }
+    ensures low { pos 0 ≤ℤ result }
+    ensures high { result ≤ℤ pos 10_000_000 }
+{
+    let mut nearest = FARTHEST;
+    for track in tracks {
+        nearest = least_distance(position, unit, width, track.pose_at(tick), nearest);
+    }
+    nearest
+}
+
+// The obstacles with their shapes placed.
+fn tracks_of(alloc: Global, obstacles: &[Obstacle]) -> Result<List<Track>, NoMemory>
+    requires { All IsObstacle obstacles.now }
+    ensures { IfOk result (λ tracks. tracks ≡ map track_of obstacles.now) }
+{
+    let mut tracks = List::new(alloc);
+    for obstacle in obstacles {
+        tracks.push(Track::new(alloc, obstacle)?)?;
+    }
+    Ok(tracks)
+}
+
+/// The obstacles of a scenario, with their shapes placed at each of their states.
+///
+/// Clauses speak of the obstacles that the traffic was made of, by `IsTrafficOf`.
+#[derive(Drop)]
+pub struct Traffic {
+    tracks: List<Track>,
+}
+
+impl Model for Traffic {
+    ghost use Rattle.std.specs.Prelude.{◌≤◌, List, length};
+    ghost use Rattle.moving_obstacles.specs.declared.track.Track.{Track as Placed};
+
+    ghost Value = { List Placed };
+
+    ghost view = { λ traffic. traffic.tracks };
+
+    ghost invariant = { λ traffic. length traffic.tracks ≤ 500 };
+}
+
+impl Traffic {
+    /// The traffic of the scenario's obstacles.
+    pub fn new(alloc: Global, scenario: &Scenario) -> Result<Traffic, NoMemory>
+        requires { IsScenario scenario.now }
+        ensures all { IfOk result (IsTrafficOf scenario.now.obstacles) }
+        ensures len { IfOk result (λ traffic. length traffic ≡ length scenario.now.obstacles) }
+    {
+        let tracks = tracks_of(alloc, scenario.obstacles.as_slice())?;
+        Ok(Traffic { tracks })
+    }
+
+    /// The number of obstacles, those that stand among them.
+    pub fn count(&self) -> usize
+        ensures len { result ≡ length self.now }
+        ensures value { ForObstacles self.now (λ obstacles. result ≡ length obstacles) }
+    {
+        self.tracks.as_slice().len()
+    }
+
+    /// The shapes of the obstacle at the index, placed where it is at the tick. None where it is nowhere then.
+    ///
+    /// The index is below the count.
+    pub fn occupancy(&self, index: usize, tick: u32) -> Option<&[Polygon]>
+        requires { index < length self.now }
+        ensures { ForObstacles self.now (λ obstacles.
+            option_copied result ≡ option_and_then (λ o. occupancy o tick) (slice_get obstacles index)) }
+    {
+        let tracks = self.tracks.as_slice();
+        tracks[index].shapes_at(tick)
+    }
+
+    /// How many obstacles have a shape that meets the polygon at the tick.
+    ///
+    /// The corners are 3 to 4,096 points in range.
+    pub fn meeting(&self, ego: &[Point], tick: u32) -> u32
+        requires { IsCornerList ego.now }
+        ensures value { ForObstacles self.now (λ obstacles. result ≡ meeting obstacles ego.now tick) }
+        ensures most { result ≤ 500 }
+    {
+        count_met(self.tracks.as_slice(), ego, tick) as u32
+    }
+
+    /// The least box gap to a shape of an obstacle at the tick, in 0.1 mm: 10^7 at most, and where no obstacle is there.
+    ///
+    /// Both corners of the box are in range.
+    pub fn nearest_gap(&self, ego: Box2, tick: u32) -> i64
+        requires { IsBoxInRange ego }
+        ensures value { ForObstacles self.now (λ obstacles. result ≡ nearest_gap obstacles ego tick) }
+        ensures least { ForObstacles self.now (λ obstacles. IsLeast (all_gaps obstacles ego tick) result) }
+        ensures low { pos 0 ≤ℤ result }
+        ensures high { result ≤ℤ pos 10_000_000 }
+    {
+        least_gap_of_all(self.tracks.as_slice(), ego, tick)
+    }
+
+    /// How far ahead the next obstacle is at the tick, in 0.1 mm: 10^7 at most, and where no obstacle is ahead.
+    ///
+    /// It is ahead where it is in front of the position along the heading, and at most the width to a side.
+    /// The heading is in microradians, at most 4 * 10^9 in size, and the width in 0.1 mm.
+    pub fn headway(&self, position: Point, heading: i64, width: i64, tick: u32) -> i64
+        requires { unsigned_abs heading ≤ 4 * 10 ^ 9 }
+        ensures value { ForObstacles self.now (λ obstacles. result ≡ headway obstacles position heading width tick) }
+        ensures least { ForObstacles self.now
+            (λ obstacles. IsLeast (all_distances obstacles position heading width tick) result) }
+        ensures low { pos 0 ≤ℤ result }
+        ensures high { result ≤ℤ pos 10_000_000 }
+    {
+        let unit = direction(heading);
+        least_distance_of_all(self.tracks.as_slice(), position, unit, width, tick)
+    }
+}
