@@ -19,6 +19,7 @@ pub record Outcome : Type 0 where
 abbrev pub role_text : Role → List ℕ
 role_text role.Book = codes "book"
 role_text role.Table = codes "table"
+role_text role.Scenario = codes "scenario"
 
 -- `refused ROLE FAULT`
 abbrev pub refused_text : Role → List ℕ → List ℕ

@@ -26,6 +26,7 @@ pub enum Status {
 pub enum Role {
     Book,
     Table,
+    Scenario,
 }
 
 /// Why a command ends before its work is done.
@@ -79,6 +80,7 @@ impl Role {
         match self {
             Role::Book => "book",
             Role::Table => "table",
+            Role::Scenario => "scenario",
         }
     }
 
@@ -89,6 +91,7 @@ impl Role {
         match self {
             Role::Book => "cannot read book\n",
             Role::Table => "cannot read table\n",
+            Role::Scenario => "cannot read scenario\n",
         }
     }
 }

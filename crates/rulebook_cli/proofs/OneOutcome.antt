@@ -9,10 +9,11 @@ use Rattle.rulebook_order.specs.Front.{vectors_of}
 use Rattle.rulebook_order.proofs.Unique.{IsFront-unique, IsVerdict-unique}
 use Rattle.command_outcome.specs.declared.outcome.Status.{Status}
 use Rattle.command_outcome.specs.Outcome.{Outcome, Halt, absent, refusal, Settles}
-use Rattle.rulebook_cli.specs.Words.{Request, pick, compare, reading}
+use Rattle.rulebook_cli.specs.Words.{Request, pick, compare, show, reading}
 use Rattle.rulebook_cli.specs.Inputs.{book_and_table}
 use Rattle.rulebook_cli.specs.Pick.{PickMakes, IsPickText, kept_lines}
 use Rattle.rulebook_cli.specs.Compare.{CompareMakes, IsCompareText, IsPairLine, pair_line, pairs}
+use Rattle.rulebook_cli.specs.Show.{ShowMakes, show_input}
 use Rattle.rulebook_cli.specs.Due.{IsDueBy, IsDueTo}
 use Rattle.rulebook_cli.specs.Laws.{OneOutcomeIsDue}
 use Rattle.rulebook_cli.proofs.Lines.{lines_unique}
@@ -47,6 +48,7 @@ one_compare files x o p h k = same_outcome o p (h.done ∙ sym k.done) (one_comp
 once_to : (request : Request) (files : Files) (o p : Outcome) → IsDueTo request files o → IsDueTo request files p → o ≡ p
 once_to (pick book table) files = settled_once (book_and_table files book table) (PickMakes files) files (one_pick files)
 once_to (compare book table) files = settled_once (book_and_table files book table) (CompareMakes files) files (one_compare files)
+once_to (show scenario) files = settled_once (show_input files scenario) (ShowMakes files) files (λ x o p h k. h ∙ sym k)
 
 once_by : (request : Option Request) (files : Files) (o p : Outcome) → IsDueBy request files o → IsDueBy request files p → o ≡ p
 once_by None files o p h k = h ∙ sym k

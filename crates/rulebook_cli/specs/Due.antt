@@ -4,20 +4,23 @@ use Rattle.outside_io.specs.Outside.{Files}
 use Rattle.command_outcome.specs.declared.outcome.Role.{Role}
 use Rattle.command_outcome.specs.declared.outcome.Status.TheVariants as status
 use Rattle.command_outcome.specs.Outcome.{Outcome, usage_text}
-use Rattle.rulebook_cli.specs.Words.{Request, pick, compare, reading}
+use Rattle.rulebook_cli.specs.Words.{Request, pick, compare, show, reading}
 use Rattle.rulebook_cli.specs.Inputs.{ReachesBookOrTable}
 use Rattle.rulebook_cli.specs.Pick.{IsPickDue}
 use Rattle.rulebook_cli.specs.Compare.{IsCompareDue}
+use Rattle.rulebook_cli.specs.Show.{IsShowDue, ReachesScenario}
 
 -- the outcome that is due to a request over these files
 abbrev pub IsDueTo : Request → Files → Outcome → Type 0
 IsDueTo (pick book table) = IsPickDue book table
 IsDueTo (compare book table) = IsCompareDue book table
+IsDueTo (show scenario) = IsShowDue scenario
 
 -- the files that a request may come to load: their role and name, where every file before has a reading
 abbrev pub ReachesFor : Request → Option Files → Role → List ℕ → Type 0
 ReachesFor (pick book table) = ReachesBookOrTable book table
 ReachesFor (compare book table) = ReachesBookOrTable book table
+ReachesFor (show scenario) = ReachesScenario scenario
 
 -- words with no reading are due their usage, and load no file
 abbrev pub IsDueBy : Option Request → Files → Outcome → Type 0

@@ -72,3 +72,4 @@ book_and_table files book_name table_name = do
 abbrev pub ReachesBookOrTable : List ℕ → List ℕ → Option Files → Role → List ℕ → Type 0
 ReachesBookOrTable book_name table_name held role.Book name = name ≡ book_name
 ReachesBookOrTable book_name table_name held role.Table name = (name ≡ table_name) × IfSome held (λ files. IsOk (file_as role.Book book_read files book_name))
+ReachesBookOrTable book_name table_name held role.Scenario name = ⊥

@@ -1,6 +1,8 @@
 pub mod Words
 pub mod Inputs
 pub mod Pick
+pub mod ScenarioInput
+pub mod Show
 pub mod Compare
 pub mod Due
 pub mod ExitStatus

@@ -5,12 +5,13 @@ use Rattle.std.specs.declared.string.String.{String}
 use Rattle.std.specs.String.{string_bytes}
 use Rattle.std.specs.Str.{bytes_eq}
 use Rattle.rulebook_cli.specs.declared.words.Command.{Command}
-use Rattle.rulebook_cli.specs.declared.words.Command.TheVariants.{Pick, Compare}
+use Rattle.rulebook_cli.specs.declared.words.Command.TheVariants.{Pick, Compare, Show}
 
 -- a command with the names of its files
 pub data Request : Type 0 where
   pick : (book table : List ℕ) → Request
   compare : (book table : List ℕ) → Request
+  show : (scenario : List ℕ) → Request
 
 -- the words as plain texts
 abbrev pub texts : List (String Global) → List (List ℕ)
@@ -21,6 +22,10 @@ abbrev pub is_file_name : List ℕ → Bool
 is_file_name [] = false
 is_file_name (c ∷ rest) = not (c == 45)
 
+-- the command of one file
+abbrev pub one_file : List ℕ → List ℕ → Option Request
+one_file command a = if bytes_eq command (codes "show") then Some (show a) else None
+
 -- the commands of two files
 abbrev pub two_files : List ℕ → List ℕ → List ℕ → Option Request
 two_files command a b =
@@ -30,6 +35,7 @@ two_files command a b =
 
 -- the one reading of the words
 abbrev pub reading : List (List ℕ) → Option Request
+reading (command ∷ a ∷ []) = if is_file_name a then one_file command a else None
 reading (command ∷ a ∷ b ∷ []) = if is_file_name a && is_file_name b then two_files command a b else None
 reading words = None
 
@@ -41,3 +47,4 @@ HasNoReading words = reading words ≡ None
 abbrev pub request_of : Command → Request
 request_of (Pick book table) = pick book.now table.now
 request_of (Compare book table) = compare book.now table.now
+request_of (Show scenario) = show scenario.now

@@ -11,6 +11,8 @@ mod comparing;
 mod inputs;
 mod laws;
 mod picking;
+mod scenario_input;
+mod showing;
 #[cfg(test)]
 mod tests;
 mod top;

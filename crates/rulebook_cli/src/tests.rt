@@ -148,7 +148,7 @@ fn bad_inputs_are_refused_by_name(rt: HostRuntime) -> Result<(), Fail> {
 
 #[test]
 fn words_with_no_reading_are_told_so(rt: HostRuntime) -> Result<(), Fail> {
-    let rows: [&[&str]; 8] = [
+    let rows: [&[&str]; 10] = [
         &[],
         &["pick"],
         &["pick", "b"],
@@ -157,6 +157,8 @@ fn words_with_no_reading_are_told_so(rt: HostRuntime) -> Result<(), Fail> {
         &["pick", "-b", "t"],
         &["picks", "b", "t"],
         &["--help"],
+        &["show"],
+        &["show", "b", "t"],
     ];
     for words in rows {
         let (status, written) = run(rt.alloc(), words, ABOVE, THREE, &NOTHING)?;
@@ -225,5 +227,142 @@ fn a_file_that_is_too_long_is_refused(rt: HostRuntime) -> Result<(), Fail> {
     let (status, written) = run(rt.alloc(), &["compare", "b", "t"], ABOVE, &long, &NOTHING)?;
     assert_eq!(rt; status, Status::Refused);
     assert_eq!(rt; written.as_slice(), b"refused table too-long\n".as_slice());
+    Ok(())
+}
+
+const OPENING: &[u8] =
+    b"<commonRoad commonRoadVersion=\"2020a\" benchmarkID=\"S1\" timeStepSize=\"0.1\">\n";
+
+const LANELET: &[u8] =
+    b"<lanelet id=\"1\"><leftBound><point><x>-50</x><y>2</y></point><point><x>150</x><y>2</y></point></leftBound><rightBound><point><x>-50</x><y>-2</y></point><point><x>150</x><y>-2</y></point></rightBound></lanelet>\n";
+
+const PROBLEM: &[u8] =
+    b"<planningProblem id=\"9\"><initialState><position><point><x>0</x><y>0</y></point></position>";
+
+const STANDING: &[u8] = b"<orientation><exact>0</exact></orientation><time><exact>0</exact></time>";
+
+const SPEED: &[u8] = b"<velocity><exact>10</exact></velocity>";
+
+const GOAL: &[u8] = b"</initialState><goalState>";
+
+const ENDING: &[u8] =
+    b"<time><intervalStart>1</intervalStart><intervalEnd>1</intervalEnd></time></goalState></planningProblem>\n</commonRoad>\n";
+
+/// What `show` writes of a document that is these pieces, joined.
+fn shown(alloc: Global, pieces: &[&[u8]]) -> Result<(Status, Vec<u8>), Fail> {
+    let mut given = Vec::new(alloc);
+    for word in ["show", "s"] {
+        given.push(String::from_str(alloc, word)?)?;
+    }
+    let mut document = Vec::new(alloc);
+    for piece in pieces {
+        document.extend_from_slice(piece)?;
+    }
+    let mut store = MemoryStore::new(alloc);
+    store.put("s", &document)?;
+    let mut out = MemorySink::with_room(alloc, 100_000)?;
+    let status = run_rulebook(alloc, &given, &mut store, &mut out);
+    Ok((status, out.written().to_vec(alloc)?))
+}
+
+#[test]
+fn show_prints_what_the_document_says(rt: HostRuntime) -> Result<(), Fail> {
+    let (status, text) = shown(
+        rt.alloc(),
+        &[OPENING, LANELET, PROBLEM, STANDING, SPEED, GOAL, ENDING],
+    )?;
+    assert_eq!(rt; status, Status::Done);
+    assert_eq!(rt;
+        text.as_slice(),
+        b"version 2020a\nstep 100000\nlanelets 1\nlanelet 1 points 4 successors 0\nobstacles 0\nproblems 1\nproblem 9 x 0 y 0 heading 0 speed 10000 tick 0 goals 1\n".as_slice()
+    );
+    Ok(())
+}
+
+#[test]
+fn what_a_start_lacks_counts_as_nothing(rt: HostRuntime) -> Result<(), Fail> {
+    let (status, text) = shown(rt.alloc(), &[OPENING, LANELET, PROBLEM, GOAL, ENDING])?;
+    assert_eq!(rt; status, Status::Done);
+    assert_eq!(rt;
+        text.as_slice(),
+        b"version 2020a\nstep 100000\nlanelets 1\nlanelet 1 points 4 successors 0\nobstacles 0\nproblems 1\nproblem 9 x 0 y 0 heading 0 speed 0 tick 0 goals 1\n".as_slice()
+    );
+    Ok(())
+}
+
+#[test]
+fn bad_scenarios_are_refused_by_name(rt: HostRuntime) -> Result<(), Fail> {
+    let rows: [(&[&[u8]], &[u8]); 4] = [
+        (&[&OPENING[..40]], b"refused scenario truncated 0\n"),
+        (
+            &[
+                OPENING, LANELET, LANELET, PROBLEM, STANDING, SPEED, GOAL, ENDING,
+            ],
+            b"refused scenario duplicate-id 1\n",
+        ),
+        (
+            &[
+                OPENING,
+                LANELET,
+                PROBLEM,
+                STANDING,
+                SPEED,
+                GOAL,
+                b"<position><lanelet ref=\"5\"/></position>",
+                ENDING,
+            ],
+            b"refused scenario unknown-ref 5\n",
+        ),
+        (
+            &[
+                OPENING,
+                LANELET,
+                PROBLEM,
+                STANDING,
+                b"<velocity><intervalStart>1</intervalStart><intervalEnd>2</intervalEnd></velocity>",
+                GOAL,
+                ENDING,
+            ],
+            b"refused scenario missing exact 446\n",
+        ),
+    ];
+    for (pieces, text) in rows {
+        let (status, written) = shown(rt.alloc(), pieces)?;
+        assert_eq!(rt; status, Status::Refused);
+        assert_eq!(rt; written.as_slice(), text);
+    }
+    Ok(())
+}
+
+const CAR_AHEAD: [&[u8]; 19] = [
+    b"<?xml version='1.0' encoding='UTF-8'?>\n",
+    b"<commonRoad xmlns:xsi=\"http://www.w3.org/2001/XMLSchema-instance\" timeStepSize=\"0.1\" commonRoadVersion=\"2020a\" author=\"A\" benchmarkID=\"DEU_Test-1_1_T-1\">\n",
+    b"  <location><geoNameId>-999</geoNameId></location>\n",
+    b"  <scenarioTags><highway/></scenarioTags>\n",
+    b"  <lanelet id=\"1\">\n",
+    b"    <leftBound><point><x>689950.0</x><y>5334002.5</y></point><point><x>690100.0</x><y>5334002.5</y></point></leftBound>\n",
+    b"    <rightBound><point><x>689950.0</x><y>5333998.5</y></point><point><x>690100.0</x><y>5333998.5</y></point></rightBound>\n",
+    b"    <successor ref=\"7\"/>\n",
+    b"  </lanelet>\n",
+    b"  <dynamicObstacle id=\"20\"><type>car</type>\n",
+    b"    <shape><rectangle><length>4.5</length><width>1.8</width></rectangle></shape>\n",
+    b"    <initialState><position><point><x>690010.1234</x><y>5334000.5</y></point></position><orientation><exact>1e-05</exact></orientation><time><exact>0</exact></time><velocity><exact>5.0</exact></velocity></initialState>\n",
+    b"    <trajectory><state><position><point><x>690010.6234</x><y>5334000.5</y></point></position><orientation><exact>1e-05</exact></orientation><time><exact>1</exact></time></state></trajectory>\n",
+    b"  </dynamicObstacle>\n",
+    b"  <planningProblem id=\"30\">\n",
+    b"    <initialState><position><point><x>690000.1234</x><y>5334000.5</y></point></position><orientation><exact>1e-05</exact></orientation><time><exact>0</exact></time><velocity><exact>10.0</exact></velocity><yawRate><exact>0.0</exact></yawRate></initialState>\n",
+    b"    <goalState><time><intervalStart>1</intervalStart><intervalEnd>20</intervalEnd></time><position><lanelet ref=\"1\"/></position><orientation><intervalStart>-0.5</intervalStart><intervalEnd>0.5</intervalEnd></orientation></goalState>\n",
+    b"  </planningProblem>\n",
+    b"</commonRoad>\n",
+];
+
+#[test]
+fn show_prints_a_scenario_with_a_car_ahead(rt: HostRuntime) -> Result<(), Fail> {
+    let (status, text) = shown(rt.alloc(), &CAR_AHEAD)?;
+    assert_eq!(rt; status, Status::Done);
+    assert_eq!(rt;
+        text.as_slice(),
+        b"version 2020a\nstep 100000\nlanelets 1\nlanelet 1 points 4 successors 0\nobstacles 1\nobstacle 20 moving states 2 shapes 1\nproblems 1\nproblem 30 x 6900001234 y 53340005000 heading 10 speed 10000 tick 0 goals 1\n".as_slice()
+    );
     Ok(())
 }

@@ -6,6 +6,7 @@ ghost use Rattle.rulebook_cli.specs.Due.{IsDue, IsDueTo, Reaches, ReachesFor};
 
 use crate::comparing::compare_rows;
 use crate::picking::pick;
+use crate::showing::show;
 use crate::words::{Command, read_words};
 use command_outcome::{Reply, Status, Stop, deliver, said};
 use outside_io::{Sink, Store};
@@ -19,6 +20,7 @@ fn serve<S: Store>(alloc: Global, store: &mut S, command: Command<'_>) -> Result
     match command {
         Command::Pick { book, table } => pick(alloc, store, book, table),
         Command::Compare { book, table } => compare_rows(alloc, store, book, table),
+        Command::Show { scenario } => show(alloc, store, scenario),
     }
 }
 

@@ -1,0 +1,8 @@
+pub mod Ids
+pub mod NodeLaws
+pub mod Unknowns
+pub mod Roots
+pub mod FirstFault
+pub mod Sizes
+pub mod ShapeLaws
+pub mod SoundLaws

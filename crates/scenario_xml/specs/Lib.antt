@@ -1,0 +1,11 @@
+pub mod Faults
+pub mod Numbers
+pub mod Elements
+pub mod Children
+pub mod Shapes
+pub mod States
+pub mod Goals
+pub mod Lanelets
+pub mod Obstacles
+pub mod Scenarios
+pub mod Sound

@@ -1,0 +1,158 @@
+-- The scenario of a document, or its first fault (CommonRoad XML 2020a). The limits are this project's own.
+use Rattle.std.specs.Prelude.{ℕ, ◌++◌, Bool, true, false, not, ◌==◌, List, [], ◌∷◌, length, ℤ, nat_le, codes, Option, Some, None, Result, Ok, Err, if◌then◌else◌}
+use Rattle.std.specs.List.{list_any}
+use Rattle.std.specs.Str.{bytes_eq}
+use Rattle.element_tree.specs.declared.fault.MarkupFault.{MarkupFault}
+use Rattle.element_tree.specs.declared.node.Node.{Node}
+use Rattle.element_tree.specs.Document.{Document}
+use Rattle.element_tree.specs.Documents.{markup}
+use Rattle.element_tree.specs.Trees.{name_of, children}
+use Rattle.reading.specs.Reading.{◌>>=◌}
+use Rattle.scenario_model.specs.declared.lanelet.Lanelet.{Lanelet}
+use Rattle.scenario_model.specs.declared.obstacle.Obstacle.{Obstacle}
+use Rattle.scenario_model.specs.declared.problem.Goal.{Goal}
+use Rattle.scenario_model.specs.declared.problem.Problem.{Problem}
+use Rattle.scenario_model.specs.declared.problem.Region.{Region}
+use Rattle.scenario_model.specs.declared.problem.Region.TheVariants.{Inside, OnLanelet}
+use Rattle.scenario_model.specs.declared.scenario.Scenario.{Scenario}
+use Rattle.scenario_model.specs.declared.scenario.Version.TheVariants.{V2020a}
+use Rattle.scenario_xml.specs.Children.{read_nodes}
+use Rattle.scenario_xml.specs.Elements.{place, wanted_attribute, id_attribute}
+use Rattle.scenario_xml.specs.Faults.{from_markup}
+use Rattle.scenario_xml.specs.Goals.{problem}
+use Rattle.scenario_xml.specs.Lanelets.{is_known, lanelet}
+use Rattle.scenario_xml.specs.Numbers.{number_in}
+use Rattle.scenario_xml.specs.Obstacles.{obstacle}
+use Rattle.scenario_xml.specs.declared.contents.Contents.{Contents}
+use Rattle.scenario_xml.specs.declared.fault.Kind.TheVariants as kind
+use Rattle.scenario_xml.specs.declared.fault.ScenarioFault.{ScenarioFault}
+use Rattle.scenario_xml.specs.declared.fault.ScenarioFault.TheVariants.{WrongRoot, WrongVersion, DuplicateId, UnknownRef, NoProblem, TooMany}
+use Rattle.scenario_xml.specs.declared.fault.Wanted.TheVariants as wanted
+use Rattle.scenario_xml.specs.declared.quantity.Quantity.TheVariants.{Step}
+
+-- an earlier element of the group has the id
+unfoldable pub has_lanelet : ℕ → List Lanelet → Bool
+has_lanelet id lanelets = list_any (λ (l : Lanelet). l.id == id) lanelets
+
+unfoldable pub has_obstacle : ℕ → List Obstacle → Bool
+has_obstacle id obstacles = list_any (λ (o : Obstacle). o.id == id) obstacles
+
+unfoldable pub has_problem : ℕ → List Problem → Bool
+has_problem id problems = list_any (λ (p : Problem). p.id == id) problems
+
+-- the id of one more lanelet
+unfoldable pub lanelet_id : Document → ℕ → List Lanelet → Result ℕ ScenarioFault
+lanelet_id doc k lanelets =
+    if nat_le 4000 (length lanelets) then Err (TooMany kind.Lanelet)
+    else (id_attribute doc k wanted.Id >>= λ id. if has_lanelet id lanelets then Err (DuplicateId id) else Ok id)
+
+unfoldable pub obstacle_id : Document → ℕ → List Obstacle → Result ℕ ScenarioFault
+obstacle_id doc k obstacles =
+    if nat_le 500 (length obstacles) then Err (TooMany kind.Obstacle)
+    else (id_attribute doc k wanted.Id >>= λ id. if has_obstacle id obstacles then Err (DuplicateId id) else Ok id)
+
+unfoldable pub problem_id : Document → ℕ → List Problem → Result ℕ ScenarioFault
+problem_id doc k problems =
+    if nat_le 64 (length problems) then Err (TooMany kind.Problem)
+    else (id_attribute doc k wanted.Id >>= λ id. if has_problem id problems then Err (DuplicateId id) else Ok id)
+
+unfoldable pub lanelet_step : Document → ℕ → Contents → Result Contents ScenarioFault
+lanelet_step doc k s =
+    lanelet_id doc k s.lanelets >>= λ id.
+    lanelet doc k id s.known >>= λ l.
+    Ok (record s { lanelets = s.lanelets ++ l ∷ [] })
+
+unfoldable pub obstacle_step : Document → ℕ → Bool → Contents → Result Contents ScenarioFault
+obstacle_step doc k moving s =
+    obstacle_id doc k s.obstacles >>= λ id.
+    obstacle doc k id moving >>= λ o.
+    Ok (record s { obstacles = s.obstacles ++ o ∷ [] })
+
+unfoldable pub problem_step : Document → ℕ → Contents → Result Contents ScenarioFault
+problem_step doc k s =
+    problem_id doc k s.problems >>= λ id.
+    problem doc k id >>= λ p.
+    Ok (record s { problems = s.problems ++ p ∷ [] })
+
+-- a child of the root, after those before it
+unfoldable pub content_step : Document → ℕ → Contents → Result Contents ScenarioFault
+content_step doc k s =
+    if bytes_eq (name_of doc k) (codes "lanelet") then lanelet_step doc k s
+    else if bytes_eq (name_of doc k) (codes "staticObstacle") then obstacle_step doc k false s
+    else if bytes_eq (name_of doc k) (codes "dynamicObstacle") then obstacle_step doc k true s
+    else if bytes_eq (name_of doc k) (codes "planningProblem") then problem_step doc k s
+    else Ok s
+
+-- the ids of all lanelets; a lanelet without a good id is left out, and refused where its turn comes
+abbrev pub id_or_none : Result ℕ ScenarioFault → List ℕ → List ℕ
+id_or_none (Ok id) ids = ids ++ id ∷ []
+id_or_none (Err fault) ids = ids
+
+unfoldable pub known_step : Document → ℕ → List ℕ → Result (List ℕ) ScenarioFault
+known_step doc k ids =
+    if bytes_eq (name_of doc k) (codes "lanelet") then Ok (id_or_none (id_attribute doc k wanted.Id) ids) else Ok ids
+
+unfoldable pub known : Document → Result (List ℕ) ScenarioFault
+known doc = read_nodes (known_step doc) (children doc 0) []
+
+unfoldable pub contents : Document → Result Contents ScenarioFault
+contents doc =
+    known doc >>= λ ids.
+    read_nodes (content_step doc) (children doc 0) (record { known = ids; lanelets = []; obstacles = []; problems = [] })
+
+-- the root is `commonRoad` of the version, and says how long a tick is
+abbrev pub in_version : Document → List ℕ → Result ℤ ScenarioFault
+in_version doc version =
+    if bytes_eq version (codes "2020a") then (wanted_attribute doc 0 wanted.TimeStepSize >>= number_in (place doc 0) Step)
+    else Err WrongVersion
+
+unfoldable pub root : Document → Result ℤ ScenarioFault
+root doc =
+    if bytes_eq (name_of doc 0) (codes "commonRoad") then (wanted_attribute doc 0 wanted.CommonRoadVersion >>= in_version doc)
+    else Err WrongRoot
+
+abbrev pub or_else : {Y : Type 0} → Option Y → Option Y → Option Y
+or_else None other = other
+or_else (Some y) other = Some y
+
+-- what f finds in the first item in which it finds something
+unfoldable pub first_in : {X Y : Type 0} → (X → Option Y) → List X → Option Y
+first_in f [] = None
+first_in f (x ∷ xs) = or_else (f x) (first_in f xs)
+
+-- the lanelet that a region, a goal, a problem refers to, and that is not known
+abbrev pub unknown_in_region : List ℕ → Region → Option ℕ
+unknown_in_region known (Inside shape) = None
+unknown_in_region known (OnLanelet id) = if is_known known id then None else Some id
+
+abbrev pub unknown_in_goal : List ℕ → Goal → Option ℕ
+unknown_in_goal known g = first_in (unknown_in_region known) g.regions
+
+abbrev pub unknown_in_problem : List ℕ → Problem → Option ℕ
+unknown_in_problem known p = first_in (unknown_in_goal known) p.goals
+
+-- every goal's region is known, and there is a problem
+abbrev pub none_unknown : ℤ → Contents → Option ℕ → Result Scenario ScenarioFault
+none_unknown step s (Some id) = Err (UnknownRef id)
+none_unknown step s None =
+    if length s.problems == 0 then Err NoProblem
+    else Ok (record { version = V2020a; step_micros = step; lanelets = s.lanelets; obstacles = s.obstacles; problems = s.problems })
+
+unfoldable pub whole : ℤ → Contents → Result Scenario ScenarioFault
+whole step s = none_unknown step s (first_in (unknown_in_problem s.known) s.problems)
+
+-- the scenario of a tree
+unfoldable pub scenario_in : Document → Result Scenario ScenarioFault
+scenario_in doc = root doc >>= λ step. contents doc >>= whole step
+
+abbrev pub shown : List ℕ → Result (List Node) MarkupFault → Result Document ScenarioFault
+shown bytes (Ok nodes) = Ok (record { source = bytes; nodes = nodes })
+shown bytes (Err fault) = Err (from_markup fault)
+
+-- the tree of some bytes
+unfoldable pub document : List ℕ → Result Document ScenarioFault
+document bytes = shown bytes (markup bytes)
+
+-- the scenario of some bytes
+unfoldable pub scenario : List ℕ → Result Scenario ScenarioFault
+scenario bytes = document bytes >>= scenario_in

@@ -1,0 +1,27 @@
+-- Goals and problems that are well formed but for their references: they are well formed among those lanelets of which none that they refer to is missing.
+use Rattle.std.specs.Prelude.{◌≡◌, ℕ, ◌≤◌, List, length, All, None}
+use Rattle.scenario_model.specs.Scenario.{IsRegion, IsGoal, IsProblem}
+use Rattle.scenario_model.specs.declared.problem.Goal.{Goal}
+use Rattle.scenario_model.specs.declared.problem.Problem.{Problem}
+use Rattle.scenario_model.specs.declared.problem.Region.{Region}
+use Rattle.scenario_xml.specs.Scenarios.{unknown_in_region, unknown_in_goal, unknown_in_problem}
+use Rattle.scenario_xml.specs.declared.goal.GoalsSoFar.{GoalsSoFar}
+use Rattle.scenario_xml.specs.declared.region.RegionsSoFar.{RegionsSoFar}
+
+pub record IsSoundRegion (region : Region) : Type 0 where
+  pub among : (ids : List ℕ) → unknown_in_region ids region ≡ None → IsRegion ids region
+
+pub record IsSoundGoal (goal : Goal) : Type 0 where
+  pub among : (ids : List ℕ) → unknown_in_goal ids goal ≡ None → IsGoal ids goal
+
+pub record IsSoundProblem (problem : Problem) : Type 0 where
+  pub among : (ids : List ℕ) → unknown_in_problem ids problem ≡ None → IsProblem ids problem
+
+-- the regions, and the goals, read so far
+pub record AreRegions (s : RegionsSoFar) : Type 0 where
+  pub few : length s.regions ≤ 64
+  pub regions : All IsSoundRegion s.regions
+
+pub record AreGoals (s : GoalsSoFar) : Type 0 where
+  pub few : length s.goals ≤ 64
+  pub goals : All IsSoundGoal s.goals

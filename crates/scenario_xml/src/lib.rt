@@ -1,0 +1,26 @@
+//! The driving scenario of a CommonRoad XML document (version 2020a), as far as it is read here.
+//!
+//! The layer above uses that `read_scenario` gives the scenario of `specs/Scenarios.antt`, or the first fault in the order that stands there.
+//! Each element has a definition of its own in `specs/`, and one function that gives it.
+#![tactic(auto)]
+
+mod children;
+mod contents;
+mod element;
+mod fault;
+mod goal;
+mod known;
+mod lanelet;
+mod obstacle;
+mod quantity;
+mod region;
+mod scenario;
+mod shape;
+mod span;
+mod state;
+#[cfg(test)]
+mod tests;
+mod unknown;
+
+pub use fault::{Kind, ScenarioFault, Wanted};
+pub use scenario::read_scenario;

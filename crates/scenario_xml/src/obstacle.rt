@@ -1,0 +1,78 @@
+ghost use Rattle.std.specs.Prelude.{◌≡◌, ◌<◌, ◌≤◌, ◌^◌, length, map, sum, All, IfOk};
+ghost use Rattle.scenario_model.specs.Scenario.{corner_count, IsShape, IsPose, IsStateCount, IsObstacle};
+ghost use Rattle.reading.specs.Reading.{Gives};
+ghost use Rattle.scenario_xml.specs.Faults.{is_memory};
+ghost use Rattle.scenario_xml.specs.Obstacles.{form, course, obstacle};
+
+use crate::element::{child, wanted_child};
+use crate::fault::{ScenarioFault, Wanted};
+use crate::shape::shapes;
+use crate::state::{pose, states};
+use element_tree::Tree;
+use preorder::List;
+use scenario_model::{Obstacle, Pose, Shape};
+use std::alloc::Global;
+
+/// The shapes of an obstacle.
+#[tactic(auto, unfolding(crate::specs::Obstacles::form))]
+fn form(alloc: Global, tree: &Tree<'_>, node: u32, id: u64) -> Result<List<Shape>, ScenarioFault>
+    requires { node < length tree.now.nodes }
+    ensures exact { Gives is_memory (λ s. s) result (form tree.now node id) }
+    ensures some { IfOk result (λ s. 1 ≤ length s) }
+    ensures sound { IfOk result (All IsShape) }
+    ensures corners { IfOk result (λ s. sum (map corner_count s) ≤ 256) }
+{
+    let shape = wanted_child(tree, node, Wanted::Shape)?;
+    shapes(alloc, tree, shape, id)
+}
+
+/// Where an obstacle is.
+#[tactic(auto, unfolding(crate::specs::Obstacles::course))]
+fn course(
+    alloc: Global,
+    tree: &Tree<'_>,
+    node: u32,
+    moving: bool,
+) -> Result<List<Pose>, ScenarioFault>
+    requires { node < length tree.now.nodes }
+    ensures exact { Gives is_memory (λ s. s) result (course tree.now node moving) }
+    ensures count { IfOk result (λ s. IsStateCount moving (length s)) }
+    ensures sound { IfOk result (All IsPose) }
+{
+    let initial = wanted_child(tree, node, Wanted::InitialState)?;
+    let first = pose(tree, initial, moving)?;
+    if moving {
+        return states(alloc, tree, node, first);
+    }
+    let mut only = List::new(alloc);
+    only.push(first)?;
+    Ok(only)
+}
+
+/// An obstacle with the id, which moves or stands.
+#[tactic(auto, unfolding(crate::specs::Obstacles::obstacle))]
+pub fn obstacle(
+    alloc: Global,
+    tree: &Tree<'_>,
+    node: u32,
+    id: u64,
+    moving: bool,
+) -> Result<Obstacle, ScenarioFault>
+    requires inside { node < length tree.now.nodes }
+    requires id { id < 10 ^ 18 }
+    ensures exact { Gives is_memory (λ o. o) result (obstacle tree.now node id moving) }
+    ensures id { IfOk result (λ o. o.id ≡ id) }
+    ensures sound { IfOk result IsObstacle }
+{
+    if let Some(occupied) = child(tree, node, b"occupancySet") {
+        return Err(ScenarioFault::Unsupported(tree.place(occupied)));
+    }
+    let shapes = form(alloc, tree, node, id)?;
+    let states = course(alloc, tree, node, moving)?;
+    Ok(Obstacle {
+        id,
+        moving,
+        shapes,
+        states,
+    })
+}

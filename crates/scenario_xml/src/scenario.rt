@@ -1,0 +1,81 @@
+ghost use Rattle.std.specs.Prelude.{◌≡◌, ◌<◌, length, IfOk};
+ghost use Rattle.reading.specs.Reading.{Gives};
+ghost use Rattle.scenario_xml.specs.Faults.{is_memory};
+ghost use Rattle.scenario_xml.specs.Scenarios.{root, whole, scenario_in, document, scenario};
+
+use crate::contents::{Contents, contents_of};
+use crate::element::wanted_attribute;
+use crate::fault::{ScenarioFault, Wanted};
+use crate::quantity::{Quantity, number_in};
+use crate::unknown::first_unknown;
+use element_tree::{MarkupFault, Tree, read_tree};
+use scenario_model::{Scenario, Version};
+use std::alloc::Global;
+
+/// How long a tick is, by the root.
+#[tactic(auto, unfolding(crate::specs::Scenarios::root), using(crate::proofs::Roots::no_root))]
+fn root(tree: &Tree<'_>) -> Result<i64, ScenarioFault>
+    ensures exact { Gives is_memory (λ n. n) result (root tree.now) }
+    ensures some { IfOk result (λ _. 0 < length tree.now.nodes) }
+{
+    if tree.count() == 0 || tree.name(0) != b"commonRoad".as_slice() {
+        return Err(ScenarioFault::WrongRoot);
+    }
+    let version = wanted_attribute(tree, 0, Wanted::CommonRoadVersion)?;
+    if version != b"2020a".as_slice() {
+        return Err(ScenarioFault::WrongVersion);
+    }
+    let step = wanted_attribute(tree, 0, Wanted::TimeStepSize)?;
+    number_in(tree.place(0), step, Quantity::Step)
+}
+
+/// The scenario of what was read, if every goal's region is known and there is a problem.
+#[tactic(auto, unfolding(crate::specs::Scenarios::whole))]
+fn whole(step_micros: i64, contents: Contents) -> Result<Scenario, ScenarioFault>
+    ensures { Gives is_memory (λ s. s) result (whole step_micros contents) }
+{
+    if let Some(id) = first_unknown(contents.problems.as_slice(), &contents.known) {
+        return Err(ScenarioFault::UnknownRef(id));
+    }
+    if contents.problems.as_slice().is_empty() {
+        return Err(ScenarioFault::NoProblem);
+    }
+    Ok(Scenario {
+        version: Version::V2020a,
+        step_micros,
+        lanelets: contents.lanelets,
+        obstacles: contents.obstacles,
+        problems: contents.problems,
+    })
+}
+
+/// The scenario of a tree.
+#[tactic(auto, unfolding(crate::specs::Scenarios::scenario_in))]
+fn scenario_in(alloc: Global, tree: &Tree<'_>) -> Result<Scenario, ScenarioFault>
+    ensures { Gives is_memory (λ s. s) result (scenario_in tree.now) }
+{
+    let step = root(tree)?;
+    let contents = contents_of(alloc, tree)?;
+    whole(step, contents)
+}
+
+/// The tree of some bytes.
+#[tactic(auto, unfolding(crate::specs::Scenarios::document))]
+fn document<'a>(alloc: Global, bytes: &'a [u8]) -> Result<Tree<'a>, ScenarioFault>
+    ensures { Gives is_memory (λ t. t) result (document bytes.now) }
+{
+    match read_tree(alloc, bytes) {
+        Ok(tree) => Ok(tree),
+        Err(MarkupFault::NoMemory) => Err(ScenarioFault::NoMemory),
+        Err(fault) => Err(ScenarioFault::Markup(fault)),
+    }
+}
+
+/// The scenario of a document's bytes, or its first fault.
+#[tactic(auto, unfolding(crate::specs::Scenarios::scenario))]
+pub fn read_scenario(alloc: Global, bytes: &[u8]) -> Result<Scenario, ScenarioFault>
+    ensures exact { Gives is_memory (λ s. s) result (scenario bytes.now) }
+{
+    let tree = document(alloc, bytes)?;
+    scenario_in(alloc, &tree)
+}
