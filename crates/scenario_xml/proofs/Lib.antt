@@ -1,4 +1,6 @@
 pub mod Ids
+pub mod KnownIds
+pub mod ContentsLaws
 pub mod NodeLaws
 pub mod Unknowns
 pub mod Roots

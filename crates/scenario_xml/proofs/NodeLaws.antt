@@ -1,5 +1,5 @@
 -- A loop over the children of an element.
-use Rattle.std.proofs.Common.{◌≡◌, ℕ, ◌<◌, List, [], ◌∷◌, Option, Some, None, Result, Ok, Err, refl}
+use Rattle.std.proofs.Common.{◌≡◌, ℕ, ◌<◌, Option, Some, None, Result, Ok, Err, refl}
 use Rattle.std.specs.Prelude.{IfSome}
 use Rattle.element_tree.specs.Document.{Document}
 use Rattle.element_tree.specs.Trees.{younger, from}

@@ -1,5 +1,5 @@
 -- A number in its range is of a limited size.
-use Rattle.std.proofs.Common.{◌≡◌, ℕ, ◌≤◌, ◌^◌, ℤ, pos, neg_ℤ, ◌≤ℤ◌, unsigned_abs, arith}
+use Rattle.std.proofs.Common.{ℕ, ◌≤◌, ◌^◌, ℤ, pos, neg_ℤ, ◌≤ℤ◌, unsigned_abs, arith}
 use Rattle.std.proofs.lemmas.Int.{ints}
 use Rattle.scenario_xml.specs.Numbers.{least, most, limit}
 use Rattle.scenario_xml.specs.declared.quantity.Quantity.{Quantity}

@@ -4,7 +4,7 @@ use Rattle.std.specs.Prelude.{All, IfSome, filter}
 use Rattle.std.proofs.lemmas.Bool.{eqb-true}
 use Rattle.std.proofs.lemmas.List.Elements.{All-cons, All-push}
 use Rattle.std.proofs.lemmas.List.Folds.{Any-from_list_any}
-use Rattle.scenario_model.specs.Scenario.{IsKnown, IsShape, IsPose, IsRegion, IsGoal, IsProblem}
+use Rattle.scenario_model.specs.Scenario.{IsKnown, IsShape, IsPose}
 use Rattle.scenario_model.specs.declared.obstacle.Shape.{Shape}
 use Rattle.scenario_model.specs.declared.problem.Goal.{Goal}
 use Rattle.scenario_model.specs.declared.problem.Problem.{Problem}

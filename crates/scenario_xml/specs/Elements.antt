@@ -1,5 +1,5 @@
 -- What is read off an element: its children and attributes by their names, numbers and ids (CommonRoad XML 2020a).
-use Rattle.std.specs.Prelude.{ℕ, List, [], ◌∷◌, ℤ, pos, find, Option, Some, None, Result, Ok, Err}
+use Rattle.std.specs.Prelude.{ℕ, List, ℤ, pos, find, Option, Some, None, Result, Ok, Err}
 use Rattle.std.specs.Str.{bytes_eq}
 use Rattle.element_tree.specs.Document.{Document}
 use Rattle.element_tree.specs.Tags.{value_of}
@@ -10,7 +10,7 @@ use Rattle.scenario_xml.specs.Numbers.{number_in, id_in}
 use Rattle.scenario_xml.specs.declared.fault.ScenarioFault.{ScenarioFault}
 use Rattle.scenario_xml.specs.declared.fault.ScenarioFault.TheVariants.{Missing, BadNumber}
 use Rattle.scenario_xml.specs.declared.fault.Wanted.{Wanted}
-use Rattle.scenario_xml.specs.declared.fault.Wanted.TheVariants.{Id, Ref, Exact}
+use Rattle.scenario_xml.specs.declared.fault.Wanted.TheVariants.{Exact}
 use Rattle.scenario_xml.specs.declared.quantity.Quantity.{Quantity}
 
 -- the place of element k

@@ -1,10 +1,9 @@
 -- Planning problems and their goals (CommonRoad XML 2020a). The limits are this project's own.
-use Rattle.std.specs.Prelude.{ℕ, ◌++◌, Bool, false, not, ◌&&◌, ◌||◌, ◌==◌, List, [], ◌∷◌, length, unsigned_abs, nat_le, codes, option_map, Option, Some, None, Result, Ok, Err, if◌then◌else◌}
+use Rattle.std.specs.Prelude.{ℕ, ◌++◌, Bool, false, not, ◌||◌, ◌==◌, List, [], ◌∷◌, length, unsigned_abs, nat_le, codes, option_map, Option, Some, None, Result, Ok, Err, if◌then◌else◌}
 use Rattle.std.specs.Str.{bytes_eq}
 use Rattle.element_tree.specs.Document.{Document}
 use Rattle.element_tree.specs.Trees.{name_of, children}
 use Rattle.reading.specs.Reading.{◌>>=◌}
-use Rattle.scenario_model.specs.declared.obstacle.Shape.{Shape}
 use Rattle.scenario_model.specs.declared.problem.Goal.{Goal}
 use Rattle.scenario_model.specs.declared.problem.Problem.{Problem}
 use Rattle.scenario_model.specs.declared.problem.Region.{Region}

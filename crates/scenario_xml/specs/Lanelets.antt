@@ -1,5 +1,5 @@
 -- Lanelets (CommonRoad XML 2020a). The limits are this project's own.
-use Rattle.std.specs.Prelude.{ℕ, ◌++◌, Bool, true, false, ◌&&◌, ◌==◌, List, [], ◌∷◌, length, filter, nat_le, codes, Option, Some, None, Result, Ok, Err, if◌then◌else◌}
+use Rattle.std.specs.Prelude.{ℕ, ◌++◌, Bool, true, ◌&&◌, ◌==◌, List, [], ◌∷◌, length, filter, nat_le, codes, Option, Some, None, Result, Ok, Err, if◌then◌else◌}
 use Rattle.std.specs.List.{list_any}
 use Rattle.std.specs.Str.{bytes_eq}
 use Rattle.element_tree.specs.Document.{Document}

@@ -1,10 +1,13 @@
 -- Goals and problems that are well formed but for their references: they are well formed among those lanelets of which none that they refer to is missing.
-use Rattle.std.specs.Prelude.{◌≡◌, ℕ, ◌≤◌, List, length, All, None}
-use Rattle.scenario_model.specs.Scenario.{IsRegion, IsGoal, IsProblem}
+use Rattle.std.specs.Prelude.{◌≡◌, ℕ, ◌≤◌, List, length, map, All, None}
+use Rattle.scenario_model.specs.Scenario.{HaveDifferentIds, IsLanelet, IsObstacle, IsRegion, IsGoal, IsProblem}
+use Rattle.scenario_model.specs.declared.lanelet.Lanelet.{Lanelet}
+use Rattle.scenario_model.specs.declared.obstacle.Obstacle.{Obstacle}
 use Rattle.scenario_model.specs.declared.problem.Goal.{Goal}
 use Rattle.scenario_model.specs.declared.problem.Problem.{Problem}
 use Rattle.scenario_model.specs.declared.problem.Region.{Region}
 use Rattle.scenario_xml.specs.Scenarios.{unknown_in_region, unknown_in_goal, unknown_in_problem}
+use Rattle.scenario_xml.specs.declared.contents.Contents.{Contents}
 use Rattle.scenario_xml.specs.declared.goal.GoalsSoFar.{GoalsSoFar}
 use Rattle.scenario_xml.specs.declared.region.RegionsSoFar.{RegionsSoFar}
 
@@ -25,3 +28,20 @@ pub record AreRegions (s : RegionsSoFar) : Type 0 where
 pub record AreGoals (s : GoalsSoFar) : Type 0 where
   pub few : length s.goals ≤ 64
   pub goals : All IsSoundGoal s.goals
+
+-- what was read of the root so far
+pub record AreContents (c : Contents) : Type 0 where
+  pub lanelet_count : length c.lanelets ≤ 4000
+  pub lanelets : All (IsLanelet c.known) c.lanelets
+  pub different_lanelets : HaveDifferentIds (λ (l : Lanelet). l.id) c.lanelets
+  pub obstacle_count : length c.obstacles ≤ 500
+  pub obstacles : All IsObstacle c.obstacles
+  pub different_obstacles : HaveDifferentIds (λ (o : Obstacle). o.id) c.obstacles
+  pub problem_count : length c.problems ≤ 64
+  pub problems : All IsSoundProblem c.problems
+  pub different_problems : HaveDifferentIds (λ (p : Problem). p.id) c.problems
+
+-- what was read of a whole root: the ids that are known are those of its lanelets
+pub record AreWhole (c : Contents) : Type 0 where
+  pub contents : AreContents c
+  pub known : c.known ≡ map (λ (l : Lanelet). l.id) c.lanelets

@@ -1,7 +1,8 @@
-ghost use Rattle.std.specs.Prelude.{⊤, ◌≡◌, ◌<◌, ◌^◌, false, length, IfOk};
+ghost use Rattle.std.specs.Prelude.{⊤, ◌≡◌, ◌<◌, ◌^◌, false, length, IfOk, OnOk};
 ghost use Rattle.reading.specs.Reading.{Gives};
 ghost use Rattle.scenario_xml.specs.Faults.{is_memory};
 ghost use Rattle.scenario_xml.specs.Scenarios.{has_lanelet, has_obstacle, has_problem, lanelet_id, obstacle_id, problem_id, lanelet_step, obstacle_step, problem_step, content_step, known_step, known, contents};
+ghost use Rattle.scenario_xml.specs.Sound.{AreContents};
 
 use crate::children::{ChildReader, read_children};
 use crate::element::id_attribute;
@@ -144,15 +145,17 @@ pub struct Contents {
 }
 
 impl Contents {
-    #[tactic(auto, unfolding(crate::specs::Scenarios::lanelet_step))]
+    #[tactic(auto, unfolding(crate::specs::Scenarios::lanelet_step), using(crate::proofs::ContentsLaws::lanelet_more))]
     fn add_lanelet(
         &mut self,
         alloc: Global,
         tree: &Tree<'_>,
         node: u32,
     ) -> Result<(), ScenarioFault>
-        requires { node < length tree.now.nodes }
-        ensures { Gives is_memory (λ _. self.new) result (lanelet_step tree.now node self.old) }
+        requires inside { node < length tree.now.nodes }
+        requires sound { AreContents self.old }
+        ensures exact { Gives is_memory (λ _. self.new) result (lanelet_step tree.now node self.old) }
+        ensures sound { OnOk result (AreContents self.new) }
     {
         let id = lanelet_id(tree, node, self.lanelets.as_slice())?;
         let lanelet = lanelet(alloc, tree, node, id, &self.known)?;
@@ -160,7 +163,7 @@ impl Contents {
         Ok(())
     }
 
-    #[tactic(auto, unfolding(crate::specs::Scenarios::obstacle_step))]
+    #[tactic(auto, unfolding(crate::specs::Scenarios::obstacle_step), using(crate::proofs::ContentsLaws::obstacle_more))]
     fn add_obstacle(
         &mut self,
         alloc: Global,
@@ -168,8 +171,10 @@ impl Contents {
         node: u32,
         moving: bool,
     ) -> Result<(), ScenarioFault>
-        requires { node < length tree.now.nodes }
-        ensures { Gives is_memory (λ _. self.new) result (obstacle_step tree.now node moving self.old) }
+        requires inside { node < length tree.now.nodes }
+        requires sound { AreContents self.old }
+        ensures exact { Gives is_memory (λ _. self.new) result (obstacle_step tree.now node moving self.old) }
+        ensures sound { OnOk result (AreContents self.new) }
     {
         let id = obstacle_id(tree, node, self.obstacles.as_slice())?;
         let obstacle = obstacle(alloc, tree, node, id, moving)?;
@@ -177,15 +182,17 @@ impl Contents {
         Ok(())
     }
 
-    #[tactic(auto, unfolding(crate::specs::Scenarios::problem_step))]
+    #[tactic(auto, unfolding(crate::specs::Scenarios::problem_step), using(crate::proofs::ContentsLaws::problem_more))]
     fn add_problem(
         &mut self,
         alloc: Global,
         tree: &Tree<'_>,
         node: u32,
     ) -> Result<(), ScenarioFault>
-        requires { node < length tree.now.nodes }
-        ensures { Gives is_memory (λ _. self.new) result (problem_step tree.now node self.old) }
+        requires inside { node < length tree.now.nodes }
+        requires sound { AreContents self.old }
+        ensures exact { Gives is_memory (λ _. self.new) result (problem_step tree.now node self.old) }
+        ensures sound { OnOk result (AreContents self.new) }
     {
         let id = problem_id(tree, node, self.problems.as_slice())?;
         let problem = problem(alloc, tree, node, id)?;
@@ -197,7 +204,7 @@ impl Contents {
 impl ChildReader for Contents {
     ghost step = { content_step };
 
-    ghost is_sound = { λ _. ⊤ };
+    ghost is_sound = { AreContents };
 
     #[tactic(auto, unfolding(crate::specs::Scenarios::content_step))]
     fn read_child(
@@ -225,7 +232,8 @@ impl ChildReader for Contents {
 #[tactic(auto, unfolding(crate::specs::Scenarios::contents))]
 pub fn contents_of(alloc: Global, tree: &Tree<'_>) -> Result<Contents, ScenarioFault>
     requires { 0 < length tree.now.nodes }
-    ensures { Gives is_memory (λ c. c) result (contents tree.now) }
+    ensures exact { Gives is_memory (λ c. c) result (contents tree.now) }
+    ensures sound { IfOk result AreContents }
 {
     let known = known(alloc, tree)?;
     let mut contents = Contents {

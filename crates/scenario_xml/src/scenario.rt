@@ -1,7 +1,9 @@
-ghost use Rattle.std.specs.Prelude.{◌≡◌, ◌<◌, length, IfOk};
+ghost use Rattle.std.specs.Prelude.{◌≡◌, ◌<◌, ◌^◌, ◌≤ℤ◌, pos, length, IfOk};
 ghost use Rattle.reading.specs.Reading.{Gives};
+ghost use Rattle.scenario_model.specs.Scenario.{IsScenario};
 ghost use Rattle.scenario_xml.specs.Faults.{is_memory};
 ghost use Rattle.scenario_xml.specs.Scenarios.{root, whole, scenario_in, document, scenario};
+ghost use Rattle.scenario_xml.specs.Sound.{AreWhole};
 
 use crate::contents::{Contents, contents_of};
 use crate::element::wanted_attribute;
@@ -17,6 +19,8 @@ use std::alloc::Global;
 fn root(tree: &Tree<'_>) -> Result<i64, ScenarioFault>
     ensures exact { Gives is_memory (λ n. n) result (root tree.now) }
     ensures some { IfOk result (λ _. 0 < length tree.now.nodes) }
+    ensures low { IfOk result (λ step. pos 1 ≤ℤ step) }
+    ensures high { IfOk result (λ step. step ≤ℤ pos (10 ^ 9)) }
 {
     if tree.count() == 0 || tree.name(0) != b"commonRoad".as_slice() {
         return Err(ScenarioFault::WrongRoot);
@@ -32,7 +36,11 @@ fn root(tree: &Tree<'_>) -> Result<i64, ScenarioFault>
 /// The scenario of what was read, if every goal's region is known and there is a problem.
 #[tactic(auto, unfolding(crate::specs::Scenarios::whole))]
 fn whole(step_micros: i64, contents: Contents) -> Result<Scenario, ScenarioFault>
-    ensures { Gives is_memory (λ s. s) result (whole step_micros contents) }
+    requires low { pos 1 ≤ℤ step_micros }
+    requires high { step_micros ≤ℤ pos (10 ^ 9) }
+    requires contents { AreWhole contents }
+    ensures exact { Gives is_memory (λ s. s) result (whole step_micros contents) }
+    ensures sound { IfOk result IsScenario }
 {
     if let Some(id) = first_unknown(contents.problems.as_slice(), &contents.known) {
         return Err(ScenarioFault::UnknownRef(id));
@@ -50,9 +58,10 @@ fn whole(step_micros: i64, contents: Contents) -> Result<Scenario, ScenarioFault
 }
 
 /// The scenario of a tree.
-#[tactic(auto, unfolding(crate::specs::Scenarios::scenario_in))]
+#[tactic(auto, unfolding(crate::specs::Scenarios::scenario_in), using(crate::proofs::KnownIds::whole_contents))]
 fn scenario_in(alloc: Global, tree: &Tree<'_>) -> Result<Scenario, ScenarioFault>
-    ensures { Gives is_memory (λ s. s) result (scenario_in tree.now) }
+    ensures exact { Gives is_memory (λ s. s) result (scenario_in tree.now) }
+    ensures sound { IfOk result IsScenario }
 {
     let step = root(tree)?;
     let contents = contents_of(alloc, tree)?;
@@ -75,6 +84,7 @@ fn document<'a>(alloc: Global, bytes: &'a [u8]) -> Result<Tree<'a>, ScenarioFaul
 #[tactic(auto, unfolding(crate::specs::Scenarios::scenario))]
 pub fn read_scenario(alloc: Global, bytes: &[u8]) -> Result<Scenario, ScenarioFault>
     ensures exact { Gives is_memory (λ s. s) result (scenario bytes.now) }
+    ensures sound { IfOk result IsScenario }
 {
     let tree = document(alloc, bytes)?;
     scenario_in(alloc, &tree)

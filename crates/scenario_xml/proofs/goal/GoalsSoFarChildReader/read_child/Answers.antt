@@ -1,5 +1,4 @@
 use Rattle.std.proofs.Common.{◌<◌, length, rules}
-use Rattle.scenario_xml.specs.Sound.{IsSoundGoal}
 use Rattle.scenario_xml.proofs.SoundLaws.{goals_more}
 use Rattle.scenario_xml.proofs.goal.GoalsSoFarChildReader.read_child.Goals as goal
 
