@@ -8,3 +8,11 @@ pub mod FirstFault
 pub mod Sizes
 pub mod ShapeLaws
 pub mod SoundLaws
+pub mod Groups
+pub mod Sorts
+pub mod ItemSteps
+pub mod KnownAll
+pub mod ReadOff
+pub mod Regions
+pub mod ScenarioLaw
+pub mod FaultLaw

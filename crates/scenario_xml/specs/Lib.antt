@@ -9,3 +9,5 @@ pub mod Lanelets
 pub mod Obstacles
 pub mod Scenarios
 pub mod Sound
+pub mod ScenarioOf
+pub mod ScenarioFaults

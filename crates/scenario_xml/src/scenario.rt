@@ -1,7 +1,10 @@
-ghost use Rattle.std.specs.Prelude.{◌≡◌, ◌<◌, ◌^◌, ◌≤ℤ◌, pos, length, IfOk};
+ghost use Rattle.std.specs.Prelude.{◌≡◌, ◌<◌, ◌^◌, ◌≤ℤ◌, pos, length, IfOk, IfErr};
+ghost use Rattle.std.specs.Bool.{OnFalse};
 ghost use Rattle.reading.specs.Reading.{Gives};
 ghost use Rattle.scenario_model.specs.Scenario.{IsScenario};
 ghost use Rattle.scenario_xml.specs.Faults.{is_memory};
+ghost use Rattle.scenario_xml.specs.ScenarioFaults.{IsFirstFaultIn};
+ghost use Rattle.scenario_xml.specs.ScenarioOf.{IsScenarioIn, IsNoScenario};
 ghost use Rattle.scenario_xml.specs.Scenarios.{root, whole, scenario_in, document, scenario};
 ghost use Rattle.scenario_xml.specs.Sound.{AreWhole};
 
@@ -85,6 +88,13 @@ fn document<'a>(alloc: Global, bytes: &'a [u8]) -> Result<Tree<'a>, ScenarioFaul
 pub fn read_scenario(alloc: Global, bytes: &[u8]) -> Result<Scenario, ScenarioFault>
     ensures exact { Gives is_memory (λ s. s) result (scenario bytes.now) }
     ensures sound { IfOk result IsScenario }
+
+    // What is accepted is the scenario of the document, and what is refused has none.
+    ensures read { IfOk result (IsScenarioIn bytes.now) }
+    ensures refused { IfErr result (λ f. OnFalse (is_memory f) (IsNoScenario bytes.now)) }
+
+    // A fault is the first one: of the markup, the root, a child of the root after all children before it, a region, the whole.
+    ensures first { IfErr result (λ f. OnFalse (is_memory f) (IsFirstFaultIn bytes.now f)) }
 {
     let tree = document(alloc, bytes)?;
     scenario_in(alloc, &tree)

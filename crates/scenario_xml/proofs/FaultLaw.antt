@@ -1,0 +1,90 @@
+-- A fault that is told is the first.
+use Rattle.std.proofs.Common.{◌≡◌, ℕ, Bool, true, false, cond, eqb, List, [], ◌∷◌, length, ℤ, Option, Some, None, Result, Ok, Err, refl, ap, sym, ◌∙◌, subst, arith}
+use Rattle.std.specs.Bool.{OnFalse}
+use Rattle.std.specs.List.{All}
+use Rattle.std.specs.Result.{IfErr}
+use Rattle.std.proofs.lemmas.Bool.{eqb-true}
+use Rattle.element_tree.specs.declared.fault.MarkupFault.{MarkupFault}
+use Rattle.element_tree.specs.declared.node.Node.{Node}
+use Rattle.element_tree.specs.Document.{Document}
+use Rattle.element_tree.specs.Documents.{markup}
+use Rattle.element_tree.specs.Trees.{children}
+use Rattle.reading.specs.Reading.{◌>>=◌, Gives}
+use Rattle.reading.proofs.ReadingLaws.{handed_on}
+use Rattle.scenario_model.specs.declared.scenario.Scenario.{Scenario}
+use Rattle.scenario_xml.specs.Children.{read_nodes, IsFirstFault}
+use Rattle.scenario_xml.specs.Faults.{is_memory, from_markup}
+use Rattle.scenario_xml.specs.ScenarioFaults.{ids_in, IsRead, IsChildFault, IsFirstUnknown, IsFirstFaultOf, in_root, in_child, in_region, in_whole, IsFirstFaultIn, in_markup, in_document}
+use Rattle.scenario_xml.specs.ScenarioOf.{regions_of, IsRegionKnown}
+use Rattle.scenario_xml.specs.Scenarios.{content_step, contents, root, first_in, unknown_in_problem, none_unknown, whole, scenario_in, shown, document, scenario}
+use Rattle.scenario_xml.specs.declared.contents.Contents.{Contents}
+use Rattle.scenario_xml.specs.declared.fault.ScenarioFault.{ScenarioFault}
+use Rattle.scenario_xml.specs.declared.fault.ScenarioFault.TheVariants.{UnknownRef, NoProblem}
+use Rattle.scenario_xml.proofs.FirstFault.{first_of}
+use Rattle.scenario_xml.proofs.KnownAll.{known_is}
+use Rattle.scenario_xml.proofs.ReadOff.{nothing, is_read}
+use Rattle.scenario_xml.proofs.Regions.{found_of, all_known, first_unknown}
+use Rattle.scenario_xml.proofs.ScenarioLaw.{contents_are}
+
+same_fault : {A F : Type 0} (r : Result A F) (e f : F) → r ≡ Err e → r ≡ Err f → e ≡ f
+same_fault r e f h k = cc
+
+abbrev refused : {A : Type 0} {g f : ScenarioFault} → g ≡ f → ◌≡◌ {A = Result A ScenarioFault} (Err g) (Err f)
+refused e = ap (λ (d : ScenarioFault). Err d) e
+
+-- a child of the root that is refused
+child_fault : (doc : Document) (f : ScenarioFault) → contents doc ≡ Err f → IsChildFault doc f
+unfolding contents
+child_fault doc f e =
+    let stop : read_nodes (content_step doc) (children doc 0) (nothing doc) ≡ Err f = rw (known_is doc) at e in
+    let w : IsFirstFault (content_step doc) (children doc 0) (nothing doc) f = first_of (λ (_ : ScenarioFault). false) (λ (s : Contents). s) (Err f) (content_step doc) (children doc 0) (nothing doc) stop in
+    record { before = w.before; node = w.node; after = w.after; state = w.state; cut = w.cut; fine = is_read doc w.before w.state w.fine; refused = w.refused }
+
+empty_when : {X : Type 0} (xs : List X) → length xs ≡ 0 → xs ≡ []
+empty_when [] e = refl
+empty_when (x ∷ xs) e = absurd (omega arith)
+
+no_problem : (doc : Document) (step : ℤ) (s : Contents) (t : Scenario) (f : ScenarioFault) (none : Bool) → eqb (length s.problems) 0 ≡ none → root doc ≡ Ok step → IsRead doc (children doc 0) s
+    → All (IsRegionKnown (ids_in doc)) (regions_of s.problems) → cond none (Err NoProblem) (Ok t) ≡ Err f → IsFirstFaultOf doc f
+no_problem doc step s t f true h top held known e =
+    subst (λ (g : ScenarioFault). IsFirstFaultOf doc g) (same_fault {A = Scenario} (Err NoProblem) NoProblem f refl e)
+    (in_whole step s top held known (empty_when s.problems (eqb-true (length s.problems) 0 h)))
+no_problem doc step s t f false h top held known e = absurd cc
+
+whole_fault : (doc : Document) (step : ℤ) (s : Contents) (f : ScenarioFault) (o : Option ℕ) → first_in (unknown_in_problem s.known) s.problems ≡ o → root doc ≡ Ok step → IsRead doc (children doc 0) s
+    → none_unknown step s o ≡ Err f → IsFirstFaultOf doc f
+whole_fault doc step s f (Some id) h top held e =
+    let w = first_unknown s.known (regions_of s.problems) id (sym (found_of s.known s.problems) ∙ h) in
+    subst (λ (g : ScenarioFault). IsFirstFaultOf doc g) (same_fault {A = Scenario} (Err (UnknownRef id)) (UnknownRef id) f refl e)
+    (in_region step s id top held (subst (λ (ids : List ℕ). IsFirstUnknown ids (regions_of s.problems) id) held.known w))
+whole_fault doc step s f None h top held e =
+    let all = all_known s.known (regions_of s.problems) (sym (found_of s.known s.problems) ∙ h) in
+    let known = subst (λ (ids : List ℕ). All (IsRegionKnown ids) (regions_of s.problems)) held.known all in
+    no_problem doc step s _ f (eqb (length s.problems) 0) refl top held known e
+
+contents_fault : (doc : Document) (step : ℤ) (f : ScenarioFault) (r : Result Contents ScenarioFault) → contents doc ≡ r → root doc ≡ Ok step → (r >>= whole step) ≡ Err f → IsFirstFaultOf doc f
+unfolding whole
+contents_fault doc step f (Ok s) h top e = whole_fault doc step s f (first_in (unknown_in_problem s.known) s.problems) refl top (contents_are doc s h) e
+contents_fault doc step f (Err g) h top e = in_child step f top (child_fault doc f (h ∙ refused {A = Contents} (same_fault {A = Scenario} (Err g) g f refl e)))
+
+root_fault : (doc : Document) (f : ScenarioFault) (r : Result ℤ ScenarioFault) → root doc ≡ r → (r >>= λ step. contents doc >>= whole step) ≡ Err f → IsFirstFaultOf doc f
+root_fault doc f (Ok step) h e = contents_fault doc step f (contents doc) refl h e
+root_fault doc f (Err g) h e = in_root f (h ∙ refused {A = ℤ} (same_fault {A = Scenario} (Err g) g f refl e))
+
+document_fault : (doc : Document) (f : ScenarioFault) → scenario_in doc ≡ Err f → IsFirstFaultOf doc f
+unfolding scenario_in
+document_fault doc f e = root_fault doc f (root doc) refl e
+
+markup_case : (bytes : List ℕ) (f : ScenarioFault) (r : Result (List Node) MarkupFault) → markup bytes ≡ r → (shown bytes r >>= scenario_in) ≡ Err f → IsFirstFaultIn bytes f
+markup_case bytes f (Ok nodes) h e = in_document nodes f h (document_fault (record { source = bytes; nodes = nodes }) f e)
+markup_case bytes f (Err g) h e =
+    subst (λ (d : ScenarioFault). IsFirstFaultIn bytes d) (same_fault {A = Scenario} (Err (from_markup g)) (from_markup g) f refl e) (in_markup g h)
+
+pub fault_first : (bytes : List ℕ) (f : ScenarioFault) → scenario bytes ≡ Err f → IsFirstFaultIn bytes f
+unfolding scenario document
+fault_first bytes f e = markup_case bytes f (markup bytes) refl e
+
+pub first_if_refused : (bytes : List ℕ) (r : Result Scenario ScenarioFault) → Gives is_memory (λ (s : Scenario). s) r (scenario bytes)
+    → IfErr r (λ f. OnFalse (is_memory f) (IsFirstFaultIn bytes f))
+first_if_refused bytes (Ok s) h = tt
+first_if_refused bytes (Err f) h = handed_on (is_memory f) (fault_first bytes f) h

@@ -1,0 +1,149 @@
+-- A child of the root that is read is one item more of its group, and each item that may come next is read.
+use Rattle.std.proofs.Common.{◌≡◌, ◌≢◌, ℕ, Bool, false, cond, eqb, leb, List, [], ◌∷◌, ◌++◌, length, Option, Some, None, Result, Ok, Err, refl, ap, sym, ◌∙◌, subst}
+use Rattle.std.specs.List.{All, list_any}
+use Rattle.std.proofs.lemmas.Bool.{leb-false, lt-leb}
+use Rattle.element_tree.specs.Document.{Document}
+use Rattle.element_tree.proofs.ContentLaws.{bind_ok, else_ok}
+use Rattle.reading.specs.Reading.{◌>>=◌}
+use Rattle.scenario_model.specs.declared.lanelet.Lanelet.{Lanelet}
+use Rattle.scenario_model.specs.declared.obstacle.Obstacle.{Obstacle}
+use Rattle.scenario_model.specs.declared.problem.Problem.{Problem}
+use Rattle.scenario_xml.specs.Elements.{wanted_child, id_attribute}
+use Rattle.scenario_xml.specs.Goals.{goals, problem}
+use Rattle.scenario_xml.specs.Lanelets.{lanelet}
+use Rattle.scenario_xml.specs.Obstacles.{form, course, obstacle_unless, obstacle}
+use Rattle.scenario_xml.specs.ScenarioOf.{moves, IsLaneletAt, IsObstacleAt, IsProblemAt}
+use Rattle.scenario_xml.specs.Scenarios.{has_lanelet, has_obstacle, has_problem, lanelet_id, obstacle_id, problem_id, lanelet_step, obstacle_step, problem_step}
+use Rattle.scenario_xml.specs.States.{pose}
+use Rattle.scenario_xml.specs.declared.contents.Contents.{Contents}
+use Rattle.scenario_xml.specs.declared.fault.Kind.TheVariants as kind
+use Rattle.scenario_xml.specs.declared.fault.ScenarioFault.{ScenarioFault}
+use Rattle.scenario_xml.specs.declared.fault.ScenarioFault.TheVariants.{DuplicateId, TooMany}
+use Rattle.scenario_xml.specs.declared.fault.Wanted.TheVariants as wanted
+use Rattle.scenario_xml.proofs.Groups.{IsNext, found_none, none_found}
+use Rattle.scenario_xml.proofs.KnownIds.{id_of_lanelet}
+
+pub same_value : {S F : Type 0} (r : Result S F) (s t : S) → r ≡ Ok s → r ≡ Ok t → s ≡ t
+same_value r s t e h = cc
+
+-- an obstacle, and a problem, has the id that it was read with, and an obstacle moves as it was read
+obstacle_case : (doc : Document) (k id : ℕ) (moving : Bool) (o : Obstacle) (found : Option ℕ) → obstacle_unless doc k id moving found ≡ Ok o → (o.id ≡ id) × (o.moving ≡ moving)
+obstacle_case doc k id moving o (Some c) e = absurd cc
+obstacle_case doc k id moving o None e =
+    let shaped = bind_ok (form doc k id) _ o e in
+    let placed = bind_ok (course doc k moving) _ o shaped.2 in
+    let same = same_value _ _ o refl placed.2 in
+    (ap (λ (x : Obstacle). x.id) (sym same), ap (λ (x : Obstacle). x.moving) (sym same))
+
+obstacle_is : (doc : Document) (k id : ℕ) (moving : Bool) (o : Obstacle) → obstacle doc k id moving ≡ Ok o → (o.id ≡ id) × (o.moving ≡ moving)
+unfolding obstacle
+obstacle_is doc k id moving o e = obstacle_case doc k id moving o _ e
+
+id_of_problem : (doc : Document) (k id : ℕ) (p : Problem) → problem doc k id ≡ Ok p → p.id ≡ id
+unfolding problem
+id_of_problem doc k id p e =
+    let state = bind_ok (wanted_child doc k wanted.InitialState) _ p e in
+    let start = bind_ok (pose doc state.0 false) _ p state.2 in
+    let all = bind_ok (goals doc k id) _ p start.2 in
+    ap (λ (x : Problem). x.id) (sym (same_value _ _ p refl all.2))
+
+-- the id of one more item, by what its attribute gives
+abbrev fresh : {X : Type 0} → ℕ → ScenarioFault → (X → ℕ) → List X → Result ℕ ScenarioFault → Result ℕ ScenarioFault
+fresh limit fault id_of items found = cond (leb limit (length items)) (Err fault) (found >>= λ id. cond (list_any (λ x. eqb (id_of x) id) items) (Err (DuplicateId id)) (Ok id))
+
+-- one more item
+abbrev added : {X : Type 0} → Result ℕ ScenarioFault → (ℕ → Result X ScenarioFault) → (X → Contents) → Result Contents ScenarioFault
+added id read put = id >>= λ id. read id >>= λ x. Ok (put x)
+
+module _ {X : Type 0} (limit : ℕ) (fault : ScenarioFault) (id_of : X → ℕ) (items : List X) (found : Result ℕ ScenarioFault) (read : ℕ → Result X ScenarioFault) (put : X → Contents) where
+  record IsAdded (t : Contents) : Type 0 where
+    pub item : X
+    pub id : found ≡ Ok (id_of item)
+    pub content : read (id_of item) ≡ Ok item
+    pub next : IsNext id_of limit items item
+    pub whole : t ≡ put item
+
+  is_added : ((id : ℕ) (x : X) → read id ≡ Ok x → id_of x ≡ id) → (t : Contents) → added (fresh limit fault id_of items found) read put ≡ Ok t → IsAdded t
+  is_added keeps t e =
+      let named = bind_ok (fresh limit fault id_of items found) _ t e in
+      let item = bind_ok (read named.0) _ t named.2 in
+      let room = else_ok (leb limit (length items)) fault _ named.0 named.1 in
+      let told = bind_ok found (λ i. cond (list_any (λ x. eqb (id_of x) i) items) (Err (DuplicateId i)) (Ok i)) named.0 room.1 in
+      let new = else_ok (list_any (λ x. eqb (id_of x) told.0) items) (DuplicateId told.0) (Ok told.0) named.0 told.2 in
+      let same : told.0 ≡ id_of item.0 = same_value (Ok told.0) told.0 named.0 refl new.1 ∙ sym (keeps named.0 item.0 item.1) in
+      record {
+        item = item.0;
+        id = told.1 ∙ ap (λ (i : ℕ). Ok i) same;
+        content = ap read (keeps named.0 item.0 item.1) ∙ item.1;
+        next = record {
+          few = leb-false limit (length items) room.0;
+          new = subst (λ (i : ℕ). All (λ y. id_of y ≢ i) items) same (found_none id_of told.0 items new.0);
+        };
+        whole = sym (same_value (Ok (put item.0)) (put item.0) t refl item.2);
+      }
+
+  adds : (x : X) → found ≡ Ok (id_of x) → read (id_of x) ≡ Ok x → IsNext id_of limit items x → added (fresh limit fault id_of items found) read put ≡ Ok (put x)
+  adds x e h next = rw (lt-leb limit (length items) next.few, e, none_found id_of (id_of x) items next.new, h) refl
+
+-- one more lanelet, obstacle or problem
+pub record AddsLanelet (doc : Document) (k : ℕ) (s t : Contents) : Type 0 where
+  pub item : Lanelet
+  pub read : IsLaneletAt doc s.known k item
+  pub next : IsNext (λ (l : Lanelet). l.id) 4000 s.lanelets item
+  pub whole : t ≡ record s { lanelets = s.lanelets ++ item ∷ [] }
+
+pub record AddsObstacle (doc : Document) (k : ℕ) (s t : Contents) : Type 0 where
+  pub item : Obstacle
+  pub read : IsObstacleAt doc k item
+  pub next : IsNext (λ (o : Obstacle). o.id) 500 s.obstacles item
+  pub whole : t ≡ record s { obstacles = s.obstacles ++ item ∷ [] }
+
+pub record AddsProblem (doc : Document) (k : ℕ) (s t : Contents) : Type 0 where
+  pub item : Problem
+  pub read : IsProblemAt doc k item
+  pub next : IsNext (λ (p : Problem). p.id) 64 s.problems item
+  pub whole : t ≡ record s { problems = s.problems ++ item ∷ [] }
+
+pub lanelet_is_added : (doc : Document) (k : ℕ) (s t : Contents) → lanelet_step doc k s ≡ Ok t → AddsLanelet doc k s t
+unfolding lanelet_step lanelet_id has_lanelet
+lanelet_is_added doc k s t e =
+    let w = is_added 4000 (TooMany kind.Lanelet) (λ (l : Lanelet). l.id) s.lanelets (id_attribute doc k wanted.Id) (λ id. lanelet doc k id s.known) (λ l. record s { lanelets = s.lanelets ++ l ∷ [] }) (λ id l h. id_of_lanelet doc k id s.known l h) t e in
+    record { item = w.item; read = record { id = w.id; content = w.content }; next = w.next; whole = w.whole }
+
+pub obstacle_is_added : (doc : Document) (k : ℕ) (s t : Contents) → obstacle_step doc k (moves doc k) s ≡ Ok t → AddsObstacle doc k s t
+unfolding obstacle_step obstacle_id has_obstacle
+obstacle_is_added doc k s t e =
+    let w = is_added 500 (TooMany kind.Obstacle) (λ (o : Obstacle). o.id) s.obstacles (id_attribute doc k wanted.Id) (λ id. obstacle doc k id (moves doc k)) (λ o. record s { obstacles = s.obstacles ++ o ∷ [] })
+    (λ id o h. (obstacle_is doc k id (moves doc k) o h).0) t e in
+    let moving = (obstacle_is doc k w.item.id (moves doc k) w.item w.content).1 in
+    record {
+      item = w.item;
+      read = record { id = w.id; moving = moving; content = rw moving w.content };
+      next = w.next;
+      whole = w.whole;
+    }
+
+pub problem_is_added : (doc : Document) (k : ℕ) (s t : Contents) → problem_step doc k s ≡ Ok t → AddsProblem doc k s t
+unfolding problem_step problem_id has_problem
+problem_is_added doc k s t e =
+    let w = is_added 64 (TooMany kind.Problem) (λ (p : Problem). p.id) s.problems (id_attribute doc k wanted.Id) (λ id. problem doc k id) (λ p. record s { problems = s.problems ++ p ∷ [] }) (λ id p h. id_of_problem doc k id p h) t e in
+    record { item = w.item; read = record { id = w.id; content = w.content }; next = w.next; whole = w.whole }
+
+pub adds_lanelet : (doc : Document) (k : ℕ) (s : Contents) (l : Lanelet) → IsLaneletAt doc s.known k l → IsNext (λ (l : Lanelet). l.id) 4000 s.lanelets l
+    → lanelet_step doc k s ≡ Ok (record s { lanelets = s.lanelets ++ l ∷ [] })
+unfolding lanelet_step lanelet_id has_lanelet
+adds_lanelet doc k s l h next =
+    adds 4000 (TooMany kind.Lanelet) (λ (l : Lanelet). l.id) s.lanelets (id_attribute doc k wanted.Id) (λ id. lanelet doc k id s.known) (λ l. record s { lanelets = s.lanelets ++ l ∷ [] }) l h.id h.content next
+
+pub adds_obstacle : (doc : Document) (k : ℕ) (s : Contents) (o : Obstacle) → IsObstacleAt doc k o → IsNext (λ (o : Obstacle). o.id) 500 s.obstacles o
+    → obstacle_step doc k (moves doc k) s ≡ Ok (record s { obstacles = s.obstacles ++ o ∷ [] })
+unfolding obstacle_step obstacle_id has_obstacle
+adds_obstacle doc k s o h next =
+    let content : obstacle doc k o.id (moves doc k) ≡ Ok o = subst (λ (b : Bool). obstacle doc k o.id b ≡ Ok o) h.moving h.content in
+    adds 500 (TooMany kind.Obstacle) (λ (o : Obstacle). o.id) s.obstacles (id_attribute doc k wanted.Id) (λ id. obstacle doc k id (moves doc k)) (λ o. record s { obstacles = s.obstacles ++ o ∷ [] }) o h.id content next
+
+pub adds_problem : (doc : Document) (k : ℕ) (s : Contents) (p : Problem) → IsProblemAt doc k p → IsNext (λ (p : Problem). p.id) 64 s.problems p
+    → problem_step doc k s ≡ Ok (record s { problems = s.problems ++ p ∷ [] })
+unfolding problem_step problem_id has_problem
+adds_problem doc k s p h next =
+    adds 64 (TooMany kind.Problem) (λ (p : Problem). p.id) s.problems (id_attribute doc k wanted.Id) (λ id. problem doc k id) (λ p. record s { problems = s.problems ++ p ∷ [] }) p h.id h.content next

@@ -1,0 +1,168 @@
+-- What is read of some bytes is their scenario, and what is refused has none.
+use Rattle.std.proofs.Common.{◌≡◌, ℕ, ◌≤◌, Bool, true, false, eqb, List, length, ℤ, Option, Some, None, Result, Ok, Err, refl, ap, sym, ◌∙◌, subst, arith}
+use Rattle.std.specs.Prelude.{codes}
+use Rattle.std.specs.Bool.{OnFalse}
+use Rattle.std.specs.List.{All}
+use Rattle.std.specs.Result.{IfOk, IfErr}
+use Rattle.std.specs.Str.{bytes_eq}
+use Rattle.std.proofs.lemmas.Bool.{eqb-false, ne_eqb}
+use Rattle.std.proofs.lemmas.Slice.Eq.{bytes_eq-Decides}
+use Rattle.element_tree.specs.declared.fault.MarkupFault.{MarkupFault}
+use Rattle.element_tree.specs.declared.node.Node.{Node}
+use Rattle.element_tree.specs.Document.{Document}
+use Rattle.element_tree.specs.Documents.{markup}
+use Rattle.element_tree.specs.Tags.{value_of}
+use Rattle.element_tree.specs.Trees.{name_of, attributes_of, children}
+use Rattle.element_tree.proofs.ContentLaws.{bind_ok, else_ok, then_ok}
+use Rattle.reading.specs.Reading.{◌>>=◌, Gives}
+use Rattle.scenario_model.specs.Scenario.{lanelet_ids}
+use Rattle.scenario_model.specs.declared.scenario.Scenario.{Scenario}
+use Rattle.scenario_model.specs.declared.scenario.Version.TheVariants.{V2020a}
+use Rattle.scenario_xml.specs.Elements.{place, or_missing, wanted_attribute}
+use Rattle.scenario_xml.specs.Faults.{is_memory}
+use Rattle.scenario_xml.specs.Numbers.{number_in}
+use Rattle.scenario_xml.specs.ScenarioFaults.{ids_in, IsRead}
+use Rattle.scenario_xml.specs.ScenarioOf.{AreReadOff, regions_of, IsRegionKnown, IsScenarioOf, IsScenarioIn, IsNoScenario}
+use Rattle.scenario_xml.specs.Scenarios.{known, contents, in_version, root, first_in, unknown_in_problem, none_unknown, whole, scenario_in, shown, document, scenario}
+use Rattle.scenario_xml.specs.declared.contents.Contents.{Contents}
+use Rattle.scenario_xml.specs.declared.fault.ScenarioFault.{ScenarioFault}
+use Rattle.scenario_xml.specs.declared.fault.ScenarioFault.TheVariants.{WrongRoot, WrongVersion, NoProblem}
+use Rattle.scenario_xml.specs.declared.fault.Wanted.{Wanted}
+use Rattle.scenario_xml.specs.declared.fault.Wanted.TheVariants as wanted
+use Rattle.scenario_xml.specs.declared.quantity.Quantity.TheVariants.{Step}
+use Rattle.scenario_xml.proofs.ItemSteps.{same_value}
+use Rattle.scenario_xml.proofs.KnownAll.{known_is, ids_are}
+use Rattle.scenario_xml.proofs.ReadOff.{is_read, reads_all}
+use Rattle.scenario_xml.proofs.Regions.{found_of, all_known, none_unknown as none_found}
+
+-- the root of a document that is read
+pub record IsRoot (doc : Document) (step : ℤ) : Type 0 where
+  pub name : name_of doc 0 ≡ codes "commonRoad"
+  pub version : value_of (codes "commonRoadVersion") (attributes_of doc 0) ≡ Some (codes "2020a")
+  pub tick : (wanted_attribute doc 0 wanted.TimeStepSize >>= number_in (place doc 0) Step) ≡ Ok step
+
+there : {X : Type 0} (what : Wanted) (at : ℕ) (o : Option X) (x : X) → or_missing what at o ≡ Ok x → o ≡ Some x
+there what at None x e = absurd cc
+there what at (Some y) x e = cc
+
+root_is : (doc : Document) (step : ℤ) → root doc ≡ Ok step → IsRoot doc step
+unfolding root wanted_attribute
+root_is doc step e =
+    let named = then_ok (bytes_eq (name_of doc 0) (codes "commonRoad")) WrongRoot _ step e in
+    let told = bind_ok (wanted_attribute doc 0 wanted.CommonRoadVersion) (in_version doc) step named.1 in
+    let right = then_ok (bytes_eq told.0 (codes "2020a")) WrongVersion _ step told.2 in
+    let same = (bytes_eq-Decides told.0 (codes "2020a")).0 right.0 in
+    let found = there wanted.CommonRoadVersion (place doc 0) (value_of (codes "commonRoadVersion") (attributes_of doc 0)) told.0 told.1 in
+    record {
+      name = (bytes_eq-Decides (name_of doc 0) (codes "commonRoad")).0 named.0;
+      version = found ∙ ap (λ (v : List ℕ). Some v) same;
+      tick = right.1;
+    }
+
+root_reads : (doc : Document) (step : ℤ) → IsRoot doc step → root doc ≡ Ok step
+unfolding root wanted_attribute
+root_reads doc step h =
+    let named : bytes_eq (name_of doc 0) (codes "commonRoad") ≡ true = (bytes_eq-Decides (name_of doc 0) (codes "commonRoad")).1 h.name in
+    rw (named, h.version) h.tick
+
+-- all children of the root
+pub contents_are : (doc : Document) (s : Contents) → contents doc ≡ Ok s → IsRead doc (children doc 0) s
+unfolding contents
+contents_are doc s e =
+    let ids = bind_ok (known doc) _ s e in
+    let same = same_value (known doc) ids.0 (ids_in doc) ids.1 (known_is doc) in
+    is_read doc (children doc 0) s (rw same at ids.2)
+
+contents_read : (doc : Document) (s : Scenario) → AreReadOff doc (ids_in doc) (children doc 0) s.lanelets s.obstacles s.problems
+    → contents doc ≡ Ok (record { known = ids_in doc; lanelets = s.lanelets; obstacles = s.obstacles; problems = s.problems })
+unfolding contents
+contents_read doc s h = rw (known_is doc) (reads_all doc (children doc 0) s.lanelets s.obstacles s.problems h)
+
+-- the whole
+record IsWhole (step : ℤ) (s : Contents) (t : Scenario) : Type 0 where
+  pub known : All (IsRegionKnown s.known) (regions_of s.problems)
+  pub some : 1 ≤ length s.problems
+  pub is : t ≡ record { version = V2020a; step_micros = step; lanelets = s.lanelets; obstacles = s.obstacles; problems = s.problems }
+
+whole_case : (step : ℤ) (s : Contents) (t : Scenario) (o : Option ℕ) → first_in (unknown_in_problem s.known) s.problems ≡ o → none_unknown step s o ≡ Ok t → IsWhole step s t
+whole_case step s t (Some id) h e = absurd cc
+whole_case step s t None h e =
+    let k = else_ok (eqb (length s.problems) 0) NoProblem _ t e in
+    let filled = eqb-false (length s.problems) 0 k.0 in
+    record { known = all_known s.known (regions_of s.problems) (sym (found_of s.known s.problems) ∙ h); some = omega (arith, filled); is = sym (same_value _ _ t refl k.1) }
+
+whole_is : (step : ℤ) (s : Contents) (t : Scenario) → whole step s ≡ Ok t → IsWhole step s t
+unfolding whole
+whole_is step s t e = whole_case step s t (first_in (unknown_in_problem s.known) s.problems) refl e
+
+whole_reads : (step : ℤ) (s : Contents) → All (IsRegionKnown s.known) (regions_of s.problems) → 1 ≤ length s.problems
+    → whole step s ≡ Ok (record { version = V2020a; step_micros = step; lanelets = s.lanelets; obstacles = s.obstacles; problems = s.problems })
+unfolding whole
+whole_reads step s h some =
+    let none = found_of s.known s.problems ∙ none_found s.known (regions_of s.problems) h in
+    rw (none, ne_eqb (length s.problems) 0 (λ e. absurd (omega (arith, e, some)))) refl
+
+-- the scenario of a document
+document_read : (doc : Document) (t : Scenario) → scenario_in doc ≡ Ok t → IsScenarioOf doc t
+unfolding scenario_in
+document_read doc t e =
+    let top = bind_ok (root doc) _ t e in
+    let held = bind_ok (contents doc) (whole top.0) t top.2 in
+    let s = held.0 in
+    let head = root_is doc top.0 top.1 in
+    let items = contents_are doc s held.1 in
+    let all = whole_is top.0 s t held.2 in
+    let ids = ids_are doc (ids_in doc) s.lanelets items.items.lanelets.read in
+    let told = items.known ∙ ids in
+    let P : Scenario → Type 0 = λ u. IsScenarioOf doc u in
+    subst P (sym all.is) (record {
+      root = head.name;
+      version = head.version;
+      told = refl;
+      step = head.tick;
+      children = rw ids at items.items;
+      some = all.some;
+      known = rw told at all.known;
+    })
+
+document_reads : (doc : Document) (t : Scenario) → IsScenarioOf doc t → scenario_in doc ≡ Ok t
+unfolding scenario_in
+document_reads doc t h =
+    let ids : ids_in doc ≡ lanelet_ids t = ids_are doc (lanelet_ids t) t.lanelets h.children.lanelets.read in
+    let s : Contents = record { known = ids_in doc; lanelets = t.lanelets; obstacles = t.obstacles; problems = t.problems } in
+    let head = root_reads doc t.step_micros (record { name = h.root; version = h.version; tick = h.step }) in
+    let held = contents_read doc t (subst (λ (known : List ℕ). AreReadOff doc known (children doc 0) t.lanelets t.obstacles t.problems) (sym ids) h.children) in
+    let all = whole_reads t.step_micros s (subst (λ (known : List ℕ). All (IsRegionKnown known) (regions_of t.problems)) (sym ids) h.known) h.some in
+    rw (head, held, all, h.told) refl
+
+shown_is : (bytes : List ℕ) (r : Result (List Node) MarkupFault) (doc : Document) → shown bytes r ≡ Ok doc → (nodes : List Node) × (r ≡ Ok nodes) × (doc ≡ record { source = bytes; nodes = nodes })
+shown_is bytes (Ok nodes) doc e = (nodes, refl, sym (same_value {F = ScenarioFault} (Ok (record { source = bytes; nodes = nodes })) _ doc refl e))
+shown_is bytes (Err f) doc e = absurd cc
+
+pub scenario_read : (bytes : List ℕ) (s : Scenario) → scenario bytes ≡ Ok s → IsScenarioIn bytes s
+unfolding scenario document
+scenario_read bytes s e =
+    let tree = bind_ok (document bytes) scenario_in s e in
+    let nodes = shown_is bytes (markup bytes) tree.0 tree.1 in
+    record { nodes = nodes.0; document = nodes.1; scenario = subst (λ (doc : Document). IsScenarioOf doc s) nodes.2 (document_read tree.0 s tree.2) }
+
+pub scenario_accepted : (bytes : List ℕ) (s : Scenario) → IsScenarioIn bytes s → scenario bytes ≡ Ok s
+unfolding scenario document
+scenario_accepted bytes s h = rw h.document (document_reads (record { source = bytes; nodes = h.nodes }) s h.scenario)
+
+not_both : (r : Result Scenario ScenarioFault) (s : Scenario) (f : ScenarioFault) → r ≡ Ok s → r ≡ Err f → ⊥
+not_both (Ok x) s f e h = absurd cc
+not_both (Err d) s f e h = absurd cc
+
+no_scenario : (bytes : List ℕ) (f : ScenarioFault) (b : Bool) → OnFalse b (scenario bytes ≡ Err f) → OnFalse b (IsNoScenario bytes)
+no_scenario bytes f true h = tt
+no_scenario bytes f false h = λ s w. not_both (scenario bytes) s f (scenario_accepted bytes s w) h
+
+pub read_if_ok : (bytes : List ℕ) (r : Result Scenario ScenarioFault) → Gives is_memory (λ (s : Scenario). s) r (scenario bytes) → IfOk r (IsScenarioIn bytes)
+read_if_ok bytes (Ok s) h = scenario_read bytes s h
+read_if_ok bytes (Err f) h = tt
+
+pub none_if_refused : (bytes : List ℕ) (r : Result Scenario ScenarioFault) → Gives is_memory (λ (s : Scenario). s) r (scenario bytes)
+    → IfErr r (λ f. OnFalse (is_memory f) (IsNoScenario bytes))
+none_if_refused bytes (Ok s) h = tt
+none_if_refused bytes (Err f) h = no_scenario bytes f (is_memory f) h

@@ -1,0 +1,67 @@
+-- The first fault of a document that is no scenario, in document order (CommonRoad XML 2020a).
+use Rattle.std.specs.Prelude.{◌≡◌, ℕ, List, [], ◌∷◌, ◌++◌, filter, All, ℤ, Ok, Err}
+use Rattle.std.specs.List.{filter_map}
+use Rattle.std.specs.Result.{result_ok}
+use Rattle.element_tree.specs.declared.fault.MarkupFault.{MarkupFault}
+use Rattle.element_tree.specs.declared.node.Node.{Node}
+use Rattle.element_tree.specs.Document.{Document}
+use Rattle.element_tree.specs.Documents.{markup}
+use Rattle.element_tree.specs.Trees.{children}
+use Rattle.scenario_model.specs.Scenario.{IsKnown}
+use Rattle.scenario_model.specs.declared.problem.Region.{Region}
+use Rattle.scenario_model.specs.declared.problem.Region.TheVariants.{OnLanelet}
+use Rattle.scenario_xml.specs.Elements.{id_attribute}
+use Rattle.scenario_xml.specs.Faults.{from_markup}
+use Rattle.scenario_xml.specs.ScenarioOf.{is_lanelet, AreReadOff, regions_of, IsRegionKnown}
+use Rattle.scenario_xml.specs.Scenarios.{root, content_step}
+use Rattle.scenario_xml.specs.declared.contents.Contents.{Contents}
+use Rattle.scenario_xml.specs.declared.fault.ScenarioFault.{ScenarioFault}
+use Rattle.scenario_xml.specs.declared.fault.ScenarioFault.TheVariants.{UnknownRef, NoProblem}
+use Rattle.scenario_xml.specs.declared.fault.Wanted.TheVariants as wanted
+
+-- the ids of all lanelets that have one
+abbrev pub ids_in : Document → List ℕ
+ids_in doc = filter_map (λ k. result_ok (id_attribute doc k wanted.Id)) (filter (is_lanelet doc) (children doc 0))
+
+-- what was read, of these children of the root
+pub record IsRead (doc : Document) (nodes : List ℕ) (s : Contents) : Type 0 where
+  pub known : s.known ≡ ids_in doc
+  pub items : AreReadOff doc (ids_in doc) nodes s.lanelets s.obstacles s.problems
+
+-- A child of the root has a fault, after all children before it were read.
+pub record IsChildFault (doc : Document) (f : ScenarioFault) : Type 0 where
+  pub before : List ℕ
+  pub node : ℕ
+  pub after : List ℕ
+  pub state : Contents
+  pub cut : children doc 0 ≡ before ++ node ∷ after
+  pub fine : IsRead doc before state
+  pub refused : content_step doc node state ≡ Err f
+
+-- A region refers to a lanelet that the document lacks, and all regions before it to none that it lacks.
+pub record IsFirstUnknown (ids : List ℕ) (regions : List Region) (id : ℕ) : Type 0 where
+  pub before : List Region
+  pub after : List Region
+  pub cut : regions ≡ before ++ OnLanelet id ∷ after
+  pub fine : All (IsRegionKnown ids) before
+  pub lacking : IsKnown ids id → ⊥
+
+-- The first fault of a document.
+pub data IsFirstFaultOf (doc : Document) : ScenarioFault → Type 0 where
+  -- the root has a fault
+  in_root : (f : ScenarioFault) → root doc ≡ Err f → IsFirstFaultOf doc f
+  -- the root is fine, and a child of it has a fault
+  in_child : (step : ℤ) (f : ScenarioFault) → root doc ≡ Ok step → IsChildFault doc f → IsFirstFaultOf doc f
+  -- all children are fine, and a region refers to a lanelet that the document lacks
+  in_region : (step : ℤ) (s : Contents) (id : ℕ) → root doc ≡ Ok step → IsRead doc (children doc 0) s → IsFirstUnknown (ids_in doc) (regions_of s.problems) id
+      → IsFirstFaultOf doc (UnknownRef id)
+  -- all children and regions are fine, and there is no problem
+  in_whole : (step : ℤ) (s : Contents) → root doc ≡ Ok step → IsRead doc (children doc 0) s → All (IsRegionKnown (ids_in doc)) (regions_of s.problems) → s.problems ≡ []
+      → IsFirstFaultOf doc NoProblem
+
+-- The first fault of some bytes.
+pub data IsFirstFaultIn (bytes : List ℕ) : ScenarioFault → Type 0 where
+  -- they are no document of the markup
+  in_markup : (f : MarkupFault) → markup bytes ≡ Err f → IsFirstFaultIn bytes (from_markup f)
+  -- they are a document, and it has a fault
+  in_document : (nodes : List Node) (f : ScenarioFault) → markup bytes ≡ Ok nodes → IsFirstFaultOf (record { source = bytes; nodes = nodes }) f → IsFirstFaultIn bytes f

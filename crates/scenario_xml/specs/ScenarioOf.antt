@@ -1,0 +1,103 @@
+-- When a scenario is that of a document, spoken of all children of the root at once (CommonRoad XML 2020a). The limits are this project's own.
+use Rattle.std.specs.Prelude.{◌≡◌, ℕ, ◌≤◌, Bool, ◌||◌, List, length, filter, All, codes, Some, Ok, ⊤}
+use Rattle.std.specs.List.{AllZip, flat_map}
+use Rattle.std.specs.Str.{bytes_eq}
+use Rattle.element_tree.specs.declared.node.Node.{Node}
+use Rattle.element_tree.specs.Document.{Document}
+use Rattle.element_tree.specs.Documents.{markup}
+use Rattle.element_tree.specs.Tags.{value_of}
+use Rattle.element_tree.specs.Trees.{name_of, attributes_of, children}
+use Rattle.reading.specs.Reading.{◌>>=◌}
+use Rattle.scenario_model.specs.Scenario.{HaveDifferentIds, lanelet_ids, IsKnown}
+use Rattle.scenario_model.specs.declared.lanelet.Lanelet.{Lanelet}
+use Rattle.scenario_model.specs.declared.obstacle.Obstacle.{Obstacle}
+use Rattle.scenario_model.specs.declared.problem.Goal.{Goal}
+use Rattle.scenario_model.specs.declared.problem.Problem.{Problem}
+use Rattle.scenario_model.specs.declared.problem.Region.{Region}
+use Rattle.scenario_model.specs.declared.problem.Region.TheVariants.{Inside, OnLanelet}
+use Rattle.scenario_model.specs.declared.scenario.Scenario.{Scenario}
+use Rattle.scenario_model.specs.declared.scenario.Version.TheVariants.{V2020a}
+use Rattle.scenario_xml.specs.Elements.{place, wanted_attribute, id_attribute}
+use Rattle.scenario_xml.specs.Goals.{problem}
+use Rattle.scenario_xml.specs.Lanelets.{lanelet}
+use Rattle.scenario_xml.specs.Numbers.{number_in}
+use Rattle.scenario_xml.specs.Obstacles.{obstacle}
+use Rattle.scenario_xml.specs.declared.fault.Wanted.TheVariants as wanted
+use Rattle.scenario_xml.specs.declared.quantity.Quantity.TheVariants.{Step}
+
+-- what element k is, by its name
+unfoldable pub is_lanelet : Document → ℕ → Bool
+is_lanelet doc k = bytes_eq (name_of doc k) (codes "lanelet")
+
+unfoldable pub stands : Document → ℕ → Bool
+stands doc k = bytes_eq (name_of doc k) (codes "staticObstacle")
+
+unfoldable pub moves : Document → ℕ → Bool
+moves doc k = bytes_eq (name_of doc k) (codes "dynamicObstacle")
+
+abbrev pub is_obstacle : Document → ℕ → Bool
+is_obstacle doc k = stands doc k || moves doc k
+
+unfoldable pub is_problem : Document → ℕ → Bool
+is_problem doc k = bytes_eq (name_of doc k) (codes "planningProblem")
+
+-- element k is this lanelet, where these are the ids of all lanelets
+pub record IsLaneletAt (doc : Document) (ids : List ℕ) (k : ℕ) (l : Lanelet) : Type 0 where
+  pub id : id_attribute doc k wanted.Id ≡ Ok l.id
+  pub content : lanelet doc k l.id ids ≡ Ok l
+
+-- element k is this obstacle
+pub record IsObstacleAt (doc : Document) (k : ℕ) (o : Obstacle) : Type 0 where
+  pub id : id_attribute doc k wanted.Id ≡ Ok o.id
+  pub moving : o.moving ≡ moves doc k
+  pub content : obstacle doc k o.id o.moving ≡ Ok o
+
+-- element k is this problem
+pub record IsProblemAt (doc : Document) (k : ℕ) (p : Problem) : Type 0 where
+  pub id : id_attribute doc k wanted.Id ≡ Ok p.id
+  pub content : problem doc k p.id ≡ Ok p
+
+-- These items are what these elements are, one for one and in their order. There are no more than the limit, and no two have one id.
+pub record AreItems {X : Type 0} (IsItemAt : ℕ → X → Type 0) (id_of : X → ℕ) (limit : ℕ) (nodes : List ℕ) (items : List X) : Type 0 where
+  pub read : AllZip IsItemAt nodes items
+  pub few : length items ≤ limit
+  pub different : HaveDifferentIds id_of items
+
+-- These lanelets, obstacles and problems are those among some children of the root, where these are the ids of all lanelets.
+pub record AreReadOff (doc : Document) (ids nodes : List ℕ) (ls : List Lanelet) (os : List Obstacle) (ps : List Problem) : Type 0 where
+  pub lanelets : AreItems (IsLaneletAt doc ids) (λ (l : Lanelet). l.id) 4000 (filter (is_lanelet doc) nodes) ls
+  pub obstacles : AreItems (IsObstacleAt doc) (λ (o : Obstacle). o.id) 500 (filter (is_obstacle doc) nodes) os
+  pub problems : AreItems (IsProblemAt doc) (λ (p : Problem). p.id) 64 (filter (is_problem doc) nodes) ps
+
+-- all goals of some problems, and all their regions, in their order
+abbrev pub goals_of : List Problem → List Goal
+goals_of problems = flat_map (λ (p : Problem). p.goals) problems
+
+abbrev pub regions_of : List Problem → List Region
+regions_of problems = flat_map (λ (g : Goal). g.regions) (goals_of problems)
+
+-- a region that is a lanelet is one of these
+abbrev pub IsRegionKnown : List ℕ → Region → Type 0
+IsRegionKnown ids (Inside shape) = ⊤
+IsRegionKnown ids (OnLanelet id) = IsKnown ids id
+
+-- The scenario of a document. Its root is `commonRoad` of the version, and says how long a tick is. Each child of the root with one of the four names is
+-- one lanelet, obstacle or problem of it, in their order, and it has no others. There is a problem, and each region that is a lanelet is one of the document's.
+pub record IsScenarioOf (doc : Document) (s : Scenario) : Type 0 where
+  pub root : name_of doc 0 ≡ codes "commonRoad"
+  pub version : value_of (codes "commonRoadVersion") (attributes_of doc 0) ≡ Some (codes "2020a")
+  pub told : s.version ≡ V2020a
+  pub step : (wanted_attribute doc 0 wanted.TimeStepSize >>= number_in (place doc 0) Step) ≡ Ok s.step_micros
+  pub children : AreReadOff doc (lanelet_ids s) (children doc 0) s.lanelets s.obstacles s.problems
+  pub some : 1 ≤ length s.problems
+  pub known : All (IsRegionKnown (lanelet_ids s)) (regions_of s.problems)
+
+-- The scenario of some bytes: they are a document of the markup, and it is that document's.
+pub record IsScenarioIn (bytes : List ℕ) (s : Scenario) : Type 0 where
+  pub nodes : List Node
+  pub document : markup bytes ≡ Ok nodes
+  pub scenario : IsScenarioOf (record { source = bytes; nodes = nodes }) s
+
+-- the bytes are no scenario
+abbrev pub IsNoScenario : List ℕ → Type 0
+IsNoScenario bytes = (s : Scenario) → IsScenarioIn bytes s → ⊥
