@@ -26,7 +26,7 @@ use Rattle.scenario_xml.proofs.ReadOff.{nothing, is_read}
 use Rattle.scenario_xml.proofs.Regions.{found_of, all_known, first_unknown}
 use Rattle.scenario_xml.proofs.ScenarioLaw.{contents_are}
 
-same_fault : {A F : Type 0} (r : Result A F) (e f : F) → r ≡ Err e → r ≡ Err f → e ≡ f
+pub same_fault : {A F : Type 0} (r : Result A F) (e f : F) → r ≡ Err e → r ≡ Err f → e ≡ f
 same_fault r e f h k = cc
 
 abbrev refused : {A : Type 0} {g f : ScenarioFault} → g ≡ f → ◌≡◌ {A = Result A ScenarioFault} (Err g) (Err f)

@@ -16,3 +16,4 @@ pub mod ReadOff
 pub mod Regions
 pub mod ScenarioLaw
 pub mod FaultLaw
+pub mod FaultTold

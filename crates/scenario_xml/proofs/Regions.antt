@@ -89,3 +89,20 @@ pub first_unknown : (ids : List ℕ) (regions : List Region) (id : ℕ) → firs
 unfolding first_in
 first_unknown ids [] id e = absurd cc
 first_unknown ids (region ∷ regions) id e = first_unknown_at ids region regions (unknown_in_region ids region) id (shows ids region) (first_unknown ids regions id) e
+
+-- the converse of first_unknown
+lanelet_unknown : (ids : List ℕ) (id : ℕ) (b : Bool) → is_known ids id ≡ b → (IsKnown ids id → ⊥) → cond b None (Some id) ≡ Some id
+lanelet_unknown ids id true e h = absurd (h (is_one ids id e))
+lanelet_unknown ids id false e h = refl
+
+found_at : (ids : List ℕ) (before after : List Region) (id : ℕ) → first_in (unknown_in_region ids) before ≡ None → unknown_in_region ids (OnLanelet id) ≡ Some id
+    → first_in (unknown_in_region ids) (before ++ OnLanelet id ∷ after) ≡ Some id
+unfolding first_in
+found_at ids before after id none here =
+    found_after (unknown_in_region ids) before (OnLanelet id ∷ after) ∙ ap (λ (o : Option ℕ). or_else o (first_in (unknown_in_region ids) (OnLanelet id ∷ after))) none
+    ∙ ap (λ (o : Option ℕ). or_else o (first_in (unknown_in_region ids) after)) here
+
+pub unknown_found : (ids : List ℕ) (regions : List Region) (id : ℕ) → IsFirstUnknown ids regions id → first_in (unknown_in_region ids) regions ≡ Some id
+unknown_found ids regions id w =
+    ap (first_in (unknown_in_region ids)) w.cut
+    ∙ found_at ids w.before w.after id (none_unknown ids w.before w.fine) (lanelet_unknown ids id (is_known ids id) refl w.lacking)

@@ -22,7 +22,7 @@ use Rattle.scenario_xml.specs.Elements.{place, or_missing, wanted_attribute}
 use Rattle.scenario_xml.specs.Faults.{is_memory}
 use Rattle.scenario_xml.specs.Numbers.{number_in}
 use Rattle.scenario_xml.specs.ScenarioFaults.{ids_in, IsRead}
-use Rattle.scenario_xml.specs.ScenarioOf.{AreReadOff, regions_of, IsRegionKnown, IsScenarioOf, IsScenarioIn, IsNoScenario}
+use Rattle.scenario_xml.specs.ScenarioOf.{AreReadOff, regions_of, IsRegionKnown, IsScenarioOf, IsScenarioIn, IsOnlyScenarioIn, IsNoScenario}
 use Rattle.scenario_xml.specs.Scenarios.{known, contents, in_version, root, first_in, unknown_in_problem, none_unknown, whole, scenario_in, shown, document, scenario}
 use Rattle.scenario_xml.specs.declared.contents.Contents.{Contents}
 use Rattle.scenario_xml.specs.declared.fault.ScenarioFault.{ScenarioFault}
@@ -161,6 +161,10 @@ no_scenario bytes f false h = λ s w. not_both (scenario bytes) s f (scenario_ac
 pub read_if_ok : (bytes : List ℕ) (r : Result Scenario ScenarioFault) → Gives is_memory (λ (s : Scenario). s) r (scenario bytes) → IfOk r (IsScenarioIn bytes)
 read_if_ok bytes (Ok s) h = scenario_read bytes s h
 read_if_ok bytes (Err f) h = tt
+
+pub only_if_ok : (bytes : List ℕ) (r : Result Scenario ScenarioFault) → Gives is_memory (λ (s : Scenario). s) r (scenario bytes) → IfOk r (IsOnlyScenarioIn bytes)
+only_if_ok bytes (Ok s) h = λ other w. same_value (scenario bytes) other s (scenario_accepted bytes other w) h
+only_if_ok bytes (Err f) h = tt
 
 pub none_if_refused : (bytes : List ℕ) (r : Result Scenario ScenarioFault) → Gives is_memory (λ (s : Scenario). s) r (scenario bytes)
     → IfErr r (λ f. OnFalse (is_memory f) (IsNoScenario bytes))

@@ -65,3 +65,7 @@ pub data IsFirstFaultIn (bytes : List ℕ) : ScenarioFault → Type 0 where
   in_markup : (f : MarkupFault) → markup bytes ≡ Err f → IsFirstFaultIn bytes (from_markup f)
   -- they are a document, and it has a fault
   in_document : (nodes : List Node) (f : ScenarioFault) → markup bytes ≡ Ok nodes → IsFirstFaultOf (record { source = bytes; nodes = nodes }) f → IsFirstFaultIn bytes f
+
+-- no other fault is the first
+abbrev pub IsOnlyFaultIn : List ℕ → ScenarioFault → Type 0
+IsOnlyFaultIn bytes f = (g : ScenarioFault) → IsFirstFaultIn bytes g → g ≡ f

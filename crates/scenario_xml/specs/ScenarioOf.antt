@@ -98,6 +98,10 @@ pub record IsScenarioIn (bytes : List ℕ) (s : Scenario) : Type 0 where
   pub document : markup bytes ≡ Ok nodes
   pub scenario : IsScenarioOf (record { source = bytes; nodes = nodes }) s
 
+-- no other scenario is that of the bytes
+abbrev pub IsOnlyScenarioIn : List ℕ → Scenario → Type 0
+IsOnlyScenarioIn bytes s = (other : Scenario) → IsScenarioIn bytes other → other ≡ s
+
 -- the bytes are no scenario
 abbrev pub IsNoScenario : List ℕ → Type 0
 IsNoScenario bytes = (s : Scenario) → IsScenarioIn bytes s → ⊥

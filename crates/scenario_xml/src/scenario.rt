@@ -3,8 +3,8 @@ ghost use Rattle.std.specs.Bool.{OnFalse};
 ghost use Rattle.reading.specs.Reading.{Gives};
 ghost use Rattle.scenario_model.specs.Scenario.{IsScenario};
 ghost use Rattle.scenario_xml.specs.Faults.{is_memory};
-ghost use Rattle.scenario_xml.specs.ScenarioFaults.{IsFirstFaultIn};
-ghost use Rattle.scenario_xml.specs.ScenarioOf.{IsScenarioIn, IsNoScenario};
+ghost use Rattle.scenario_xml.specs.ScenarioFaults.{IsFirstFaultIn, IsOnlyFaultIn};
+ghost use Rattle.scenario_xml.specs.ScenarioOf.{IsScenarioIn, IsOnlyScenarioIn, IsNoScenario};
 ghost use Rattle.scenario_xml.specs.Scenarios.{root, whole, scenario_in, document, scenario};
 ghost use Rattle.scenario_xml.specs.Sound.{AreWhole};
 
@@ -89,12 +89,14 @@ pub fn read_scenario(alloc: Global, bytes: &[u8]) -> Result<Scenario, ScenarioFa
     ensures exact { Gives is_memory (λ s. s) result (scenario bytes.now) }
     ensures sound { IfOk result IsScenario }
 
-    // What is accepted is the scenario of the document, and what is refused has none.
+    // What is accepted is the scenario of the document, and there is no other; what is refused has none.
     ensures read { IfOk result (IsScenarioIn bytes.now) }
+    ensures only { IfOk result (IsOnlyScenarioIn bytes.now) }
     ensures refused { IfErr result (λ f. OnFalse (is_memory f) (IsNoScenario bytes.now)) }
 
     // A fault is the first one: of the markup, the root, a child of the root after all children before it, a region, the whole.
     ensures first { IfErr result (λ f. OnFalse (is_memory f) (IsFirstFaultIn bytes.now f)) }
+    ensures only_fault { IfErr result (λ f. OnFalse (is_memory f) (IsOnlyFaultIn bytes.now f)) }
 {
     let tree = document(alloc, bytes)?;
     scenario_in(alloc, &tree)

@@ -4,7 +4,8 @@ use Rattle.scenario_model.specs.declared.scenario.Scenario.{Scenario}
 use Rattle.scenario_xml.specs.Faults.{is_memory}
 use Rattle.scenario_xml.specs.Scenarios.{scenario}
 use Rattle.scenario_xml.proofs.FaultLaw.{first_if_refused}
-use Rattle.scenario_xml.proofs.ScenarioLaw.{read_if_ok, none_if_refused}
+use Rattle.scenario_xml.proofs.FaultTold.{only_fault_if_refused}
+use Rattle.scenario_xml.proofs.ScenarioLaw.{read_if_ok, only_if_ok, none_if_refused}
 use Rattle.scenario_xml.proofs.scenario.read_scenario.Goals as goal
 
 pub returns-in_err-tree-clause-refused : goal.returns-in_err-tree-clause-refused
@@ -36,3 +37,21 @@ unfolding scenario
 returns-clause-first c =
     let exact : Gives is_memory (λ (s : Scenario). s) c.scenario_in.result (scenario c.args.bytes.now) = search rules in
     first_if_refused c.args.bytes.now c.scenario_in.result exact
+
+pub returns-clause-only : goal.returns-clause-only
+unfolding scenario
+returns-clause-only c =
+    let exact : Gives is_memory (λ (s : Scenario). s) c.scenario_in.result (scenario c.args.bytes.now) = search rules in
+    only_if_ok c.args.bytes.now c.scenario_in.result exact
+
+pub returns-in_err-tree-clause-only_fault : goal.returns-in_err-tree-clause-only_fault
+unfolding scenario
+returns-in_err-tree-clause-only_fault c =
+    let exact : Gives is_memory (λ (s : Scenario). s) c.from_residual.result (scenario c.args.bytes.now) = search rules in
+    only_fault_if_refused c.args.bytes.now c.from_residual.result exact
+
+pub returns-clause-only_fault : goal.returns-clause-only_fault
+unfolding scenario
+returns-clause-only_fault c =
+    let exact : Gives is_memory (λ (s : Scenario). s) c.scenario_in.result (scenario c.args.bytes.now) = search rules in
+    only_fault_if_refused c.args.bytes.now c.scenario_in.result exact
