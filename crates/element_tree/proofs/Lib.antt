@@ -14,3 +14,8 @@ pub mod Shapes
 pub mod Wholes
 pub mod FirstFaults
 pub mod Accepts
+pub mod Outer
+pub mod Heads
+pub mod TextLaws
+pub mod TagLaws
+pub mod ShownLaws

@@ -10,3 +10,4 @@ pub mod Document
 pub mod Trees
 pub mod Contents
 pub mod Faults
+pub mod Shown

@@ -7,6 +7,7 @@ ghost use Rattle.element_tree.specs.Tags.{value_of};
 ghost use Rattle.element_tree.specs.Documents.{is_memory, markup};
 ghost use Rattle.element_tree.specs.Contents.{mark_len, after_mark, IsDocument, IsNoDocument};
 ghost use Rattle.element_tree.specs.Faults.{IsFirstFault, at_front};
+ghost use Rattle.element_tree.specs.Shown.{ShowsContent};
 ghost use Rattle.element_tree.specs.Trees.{no_node, node_of, tag_of, after_tag, name_of, after_name, attributes_of, trim_end, trim, text_before_end, text_of, siblings, children, younger, from};
 
 use crate::bytes::{is_space, len_before, name_len, skip_space};
@@ -37,7 +38,7 @@ impl<'a> Model for Tree<'a> {
 }
 
 /// The tree of a document, or its first fault. The places count from the first byte, a byte order mark included.
-#[tactic(auto, using(crate::proofs::Wholes::markup_whole, crate::proofs::FirstFaults::first_answered, crate::proofs::Accepts::none_refused))]
+#[tactic(auto, using(crate::proofs::Wholes::markup_whole, crate::proofs::FirstFaults::first_answered, crate::proofs::Accepts::none_refused, crate::proofs::ShownLaws::document_shown))]
 pub fn read_tree<'a>(alloc: Global, bytes: &'a [u8]) -> Result<Tree<'a>, MarkupFault>
     ensures exact { Gives is_memory (λ t. t.nodes) result (markup bytes.now) }
     ensures source { IfOk result (λ t. t.source ≡ bytes.now) }
@@ -48,6 +49,10 @@ pub fn read_tree<'a>(alloc: Global, bytes: &'a [u8]) -> Result<Tree<'a>, MarkupF
     // What is accepted is the tokens of some content, joined, and the tree shows its elements; what is refused is of no content.
     ensures spelled { IfOk result (λ t. IsDocument (mark_len bytes.now) (after_mark bytes.now) t.nodes) }
     ensures refused { IfErr result (λ f. OnFalse (is_memory f) (IsNoDocument (mark_len bytes.now) (after_mark bytes.now))) }
+
+    // Of each element the calls tell what the content says: its tag with its name and its attributes, its text,
+    // the elements directly in it, and those after it in the same element.
+    ensures shown { IfOk result (λ t. ShowsContent t) }
 {
     let nodes = read_nodes(alloc, bytes)?;
     Ok(Tree {

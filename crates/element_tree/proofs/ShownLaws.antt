@@ -1,0 +1,208 @@
+-- The calls on a tree tell what its content says.
+use Rattle.std.proofs.Common.{◌≡◌, ℕ, suc, ◌+◌, Bool, true, false, cond, List, [], ◌∷◌, ◌++◌, length, take, drop, get_or, Some, refl, ap, sym, ◌∙◌, append_assoc, subst, arith}
+use Rattle.std.specs.Prelude.{option_map, codes, nat_eq}
+use Rattle.std.specs.List.{ends_with}
+use Rattle.std.proofs.Math.Seq.{drop-append_seam}
+use Rattle.std.proofs.lemmas.List.{append-nil, get_or-drop, drop-drop}
+use Rattle.element_tree.specs.declared.node.Node.{Node}
+use Rattle.element_tree.specs.declared.token.Kind.{Kind}
+use Rattle.element_tree.specs.declared.token.Kind.TheVariants.{Text, Aside, End, Start}
+use Rattle.element_tree.specs.Pieces.{pieces}
+use Rattle.element_tree.specs.Tokens.{begins, cut_token}
+use Rattle.element_tree.specs.Tags.{attribute_at, start_tag}
+use Rattle.element_tree.specs.Document.{Document}
+use Rattle.element_tree.specs.Trees.{no_node, node_of, tag_of, after_tag, trim, text_before_end, text_of, siblings, children, younger}
+use Rattle.element_tree.specs.Contents.{Content, nothing, text, aside, empty, element, tokens, IsProper, size, nodes, mark_len}
+use Rattle.element_tree.specs.Shown.{count, outer, text_alone, HasParts, Tells, IsShown, ShowsContent}
+use Rattle.element_tree.proofs.Heads.{first_token}
+use Rattle.element_tree.proofs.Outer.{AreLess, less_in, deeper, outer_all, nodes_count}
+use Rattle.element_tree.proofs.TagLaws.{name_in, past_name, tag_name, tag_parts, slash_is_empty}
+use Rattle.element_tree.proofs.TextLaws.{text_is_alone}
+
+abbrev Token : Type 0
+Token = Kind × List ℕ
+
+abbrev node : ℕ → List ℕ → ℕ → Node
+node at tag depth = record { place = at; len = length tag; depth = depth }
+
+-- the bytes are these tokens, and nothing else
+abbrev Cuts : List ℕ → List Token → Type 0
+Cuts bytes ts = pieces cut_token bytes ≡ (ts, [])
+
+regroup : (bytes : List ℕ) (ts us : List Token) → ts ≡ us → Cuts bytes ts → Cuts bytes us
+regroup bytes ts us e h = let P : List Token → Type 0 = λ x. Cuts bytes x in subst P e h
+
+later : (source : List ℕ) (a b c : ℕ) (ts : List Token) → a + b ≡ c → Cuts (drop b (drop a source)) ts → Cuts (drop c source) ts
+later source a b c ts e h = let P : List ℕ → Type 0 = λ x. Cuts x ts in subst P (drop-drop b a source ∙ ap (λ (k : ℕ). drop k source) e) h
+
+next_cuts : (source : List ℕ) (at : ℕ) (t : Token) (ts : List Token) → Cuts (drop at source) (t ∷ ts) → Cuts (drop (at + length t.1) source) ts
+next_cuts source at t ts h = let first = first_token (drop at source) t ts h in later source at (length t.1) (at + length t.1) ts refl first.next
+
+same_place : (source : List ℕ) (a b : ℕ) (ts : List Token) → a ≡ b → Cuts (drop a source) ts → Cuts (drop b source) ts
+same_place source a b ts e h = let P : ℕ → Type 0 = λ k. Cuts (drop k source) ts in subst P e h
+
+-- past the bytes of some content
+past : (c : Content) (source : List ℕ) (at : ℕ) (more : List Token) → Cuts (drop at source) (tokens c ++ more) → Cuts (drop (at + size c) source) more
+past nothing source at more h = same_place source at (at + 0) more (omega arith) h
+past (text b c) source at more h =
+    same_place source (at + length b + size c) (at + (length b + size c)) more (omega arith) (past c source (at + length b) more (next_cuts source at (Text, b) (tokens c ++ more) h))
+past (aside b c) source at more h =
+    same_place source (at + length b + size c) (at + (length b + size c)) more (omega arith) (past c source (at + length b) more (next_cuts source at (Aside, b) (tokens c ++ more) h))
+past (empty t c) source at more h =
+    same_place source (at + length t + size c) (at + (length t + size c)) more (omega arith) (past c source (at + length t) more (next_cuts source at (Start, t) (tokens c ++ more) h))
+past (element t inside e c) source at more h =
+    let start = at + length t in
+    let all = regroup (drop start source) ((tokens inside ++ (End, e) ∷ tokens c) ++ more) (tokens inside ++ (End, e) ∷ (tokens c ++ more)) (append_assoc (tokens inside) ((End, e) ∷ tokens c) more)
+    (next_cuts source at (Start, t) ((tokens inside ++ (End, e) ∷ tokens c) ++ more) h) in
+    let ended = next_cuts source (start + size inside) (End, e) (tokens c ++ more) (past inside source start ((End, e) ∷ (tokens c ++ more)) all) in
+    same_place source (start + size inside + length e + size c) (at + (length t + size inside + length e + size c)) more (omega arith) (past c source (start + size inside + length e) more ended)
+
+first_node : (ns : List Node) (k : ℕ) (n : Node) (more : List Node) (d : Node) → drop k ns ≡ n ∷ more → get_or ns k d ≡ n
+first_node ns k n more d h =
+    ap (λ (j : ℕ). get_or ns j d) (let e : k ≡ k + 0 = omega arith in e) ∙ sym (get_or-drop k ns 0 d) ∙ ap (λ (l : List Node). get_or l 0 d) h
+
+next_nodes : (ns : List Node) (k : ℕ) (n : Node) (more : List Node) → drop k ns ≡ n ∷ more → drop (k + 1) ns ≡ more
+next_nodes ns k n more h = sym (drop-drop 1 k ns) ∙ ap (λ (l : List Node). drop 1 l) h
+
+children_are : (doc : Document) (k : ℕ) (n : Node) (more : List Node) → node_of doc k ≡ n → drop (k + 1) doc.nodes ≡ more → children doc k ≡ siblings (suc n.depth) (k + 1) more
+unfolding children
+children_are doc k n more e h =
+    ap (λ (m : Node). siblings (m.depth + 1) (k + 1) (drop (k + 1) doc.nodes)) e ∙ ap (λ (l : List Node). siblings (n.depth + 1) (k + 1) l) h
+    ∙ ap (λ (d : ℕ). siblings d (k + 1) more) (let q : n.depth + 1 ≡ suc n.depth = omega arith in q)
+
+younger_are : (doc : Document) (k : ℕ) (n : Node) (more : List Node) → node_of doc k ≡ n → drop (k + 1) doc.nodes ≡ more → younger doc k ≡ siblings n.depth (k + 1) more
+unfolding younger
+younger_are doc k n more e h = ap (λ (m : Node). siblings m.depth (k + 1) (drop (k + 1) doc.nodes)) e ∙ ap (λ (l : List Node). siblings n.depth (k + 1) l) h
+
+text_is : (doc : Document) (k : ℕ) (tag rest : List ℕ) (is_empty : Bool) → tag_of doc k ≡ tag → after_tag doc k ≡ rest → ends_with nat_eq tag (codes "/>") ≡ is_empty
+    → text_of doc k ≡ cond is_empty (Some []) (text_before_end rest)
+unfolding text_of
+text_is doc k tag rest is_empty e h s =
+    ap (λ (t : List ℕ). cond (ends_with nat_eq t (codes "/>")) (Some []) (text_before_end (after_tag doc k))) e
+    ∙ ap (λ (b : Bool). cond b (Some []) (text_before_end (after_tag doc k))) s ∙ ap (λ (r : List ℕ). cond is_empty (Some []) (text_before_end r)) h
+
+-- what the calls tell of an element whose start tag, text, and elements are these
+tells : (doc : Document) (k at depth : ℕ) (tag name : List ℕ) (is_empty : Bool) (inside after : Content) (more : List Node)
+    → drop k doc.nodes ≡ node at tag depth ∷ more → take (length tag) (drop at doc.source) ≡ tag → start_tag tag ≡ Some (name, is_empty)
+    → cond is_empty (Some []) (text_before_end (drop (length tag) (drop at doc.source))) ≡ option_map trim (text_alone inside)
+    → siblings (suc depth) (k + 1) more ≡ outer (k + 1) inside → siblings depth (k + 1) more ≡ outer (k + 1 + count inside) after
+    → Tells doc k tag is_empty inside after
+tells doc k at depth tag name is_empty inside after more shown here form words inner outside =
+    let n = node at tag depth in
+    let is : node_of doc k ≡ n = first_node doc.nodes k n more no_node shown in
+    let next = next_nodes doc.nodes k n more shown in
+    let tag_is : tag_of doc k ≡ tag = ap (λ (m : Node). take m.len (drop m.place doc.source)) is ∙ here in
+    let rest_is : after_tag doc k ≡ drop (length tag) (drop at doc.source) = ap (λ (m : Node). drop m.len (drop m.place doc.source)) is in
+    let P : List ℕ → Type 0 = λ t. HasParts tag (name_in t) (pieces attribute_at (past_name t)).0 is_empty in
+    record {
+      tag_is = tag_is;
+      name_is = form ∙ ap (λ (x : List ℕ). Some (x, is_empty)) (tag_name tag name is_empty form ∙ ap (λ (t : List ℕ). name_in t) (sym tag_is));
+      attributes_are = subst P (sym tag_is) (tag_parts tag name is_empty form);
+      text_is = text_is doc k tag (drop (length tag) (drop at doc.source)) is_empty tag_is rest_is (slash_is_empty tag name is_empty form) ∙ words;
+      children_are = children_are doc k n more is next ∙ inner;
+      younger_are = younger_are doc k n more is next ∙ outside;
+    }
+
+-- In the document this content stands: its elements from number k on, its tokens from this place on, and then nothing that lies deeper.
+record Stands (doc : Document) (k at depth : ℕ) (c : Content) (rest : List Node) (more : List Token) : Type 0 where
+  listed : drop k doc.nodes ≡ nodes at depth c ++ rest
+  cut : Cuts (drop at doc.source) (tokens c ++ more)
+  proper : IsProper c
+  less : AreLess depth rest
+
+after_empty : (doc : Document) (k at depth : ℕ) (t : List ℕ) (c : Content) (rest : List Node) (more : List Token) → Stands doc k at depth (empty t c) rest more
+    → Stands doc (k + 1) (at + length t) depth c rest more
+after_empty doc k at depth t c rest more w = record {
+  listed = next_nodes doc.nodes k (node at t depth) (nodes (at + length t) depth c ++ rest) w.listed;
+  cut = next_cuts doc.source at (Start, t) (tokens c ++ more) w.cut;
+  proper = w.proper.1;
+  less = w.less;
+}
+
+tells_empty : (doc : Document) (k at depth : ℕ) (t : List ℕ) (c : Content) (rest : List Node) (more : List Token) → Stands doc k at depth (empty t c) rest more → Tells doc k t true nothing c
+tells_empty doc k at depth t c rest more w =
+    let form = w.proper.0 in
+    let first = first_token (drop at doc.source) (Start, t) (tokens c ++ more) w.cut in
+    let following = nodes (at + length t) depth c ++ rest in
+    tells doc k at depth t form.0 true nothing c following w.listed first.here form.1 refl
+    (outer_all nothing (suc depth) at (k + 1) following (less_in c (at + length t) depth rest w.less))
+    (outer_all c depth (at + length t) (k + 1) rest w.less ∙ ap (λ (n : ℕ). outer n c) (let e : k + 1 ≡ k + 1 + 0 = omega arith in e))
+
+-- an element with its start tag, what stands in it, and its end tag
+module _ (doc : Document) (k at depth : ℕ) (t : List ℕ) (inside : Content) (e : List ℕ) (c : Content) (rest : List Node) (more : List Token)
+    (w : Stands doc k at depth (element t inside e c) rest more) where
+  abbrev place : ℕ
+  place = at + length t + size inside + length e
+
+  abbrev inner : List Node
+  inner = nodes (at + length t) (suc depth) inside
+
+  abbrev following : List Node
+  following = nodes place depth c
+
+  cut_in : (bytes : List ℕ) → Cuts bytes ((tokens inside ++ (End, e) ∷ tokens c) ++ more) → Cuts bytes (tokens inside ++ (End, e) ∷ (tokens c ++ more))
+  cut_in bytes h = regroup bytes ((tokens inside ++ (End, e) ∷ tokens c) ++ more) (tokens inside ++ (End, e) ∷ (tokens c ++ more)) (append_assoc (tokens inside) ((End, e) ∷ tokens c) more) h
+
+  inner_cuts : Cuts (drop (at + length t) doc.source) (tokens inside ++ (End, e) ∷ (tokens c ++ more))
+  inner_cuts = cut_in (drop (at + length t) doc.source) (next_cuts doc.source at (Start, t) ((tokens inside ++ (End, e) ∷ tokens c) ++ more) w.cut)
+
+  inner_listed : drop (k + 1) doc.nodes ≡ inner ++ (following ++ rest)
+  inner_listed = next_nodes doc.nodes k (node at t depth) ((inner ++ following) ++ rest) w.listed ∙ append_assoc inner following rest
+
+  stands_in : Stands doc (k + 1) (at + length t) (suc depth) inside (following ++ rest) ((End, e) ∷ (tokens c ++ more))
+  stands_in = record { listed = inner_listed; cut = inner_cuts; proper = w.proper.1; less = less_in c place depth rest w.less }
+
+  stands_after : Stands doc (k + 1 + count inside) place depth c rest more
+  stands_after = record {
+    listed = sym (drop-drop (count inside) (k + 1) doc.nodes) ∙ ap (λ (l : List Node). drop (count inside) l) inner_listed
+        ∙ ap (λ (n : ℕ). drop n (inner ++ (following ++ rest))) (sym (nodes_count inside (at + length t) (suc depth))) ∙ drop-append_seam inner (following ++ rest);
+    cut = next_cuts doc.source (at + length t + size inside) (End, e) (tokens c ++ more) (past inside doc.source (at + length t) ((End, e) ∷ (tokens c ++ more)) inner_cuts);
+    proper = w.proper.2;
+    less = w.less;
+  }
+
+  tells_element : Tells doc k t false inside c
+  tells_element =
+      let form = w.proper.0 in
+      let first = first_token (drop at doc.source) (Start, t) ((tokens inside ++ (End, e) ∷ tokens c) ++ more) w.cut in
+      let rest_of = drop (length t) (drop at doc.source) in
+      let grouped = append_assoc inner following rest in
+      tells doc k at depth t form.0 false inside c ((inner ++ following) ++ rest) w.listed first.here form.1
+      (text_is_alone inside rest_of e (tokens c ++ more) (cut_in rest_of first.next))
+      (ap (λ (l : List Node). siblings (suc depth) (k + 1) l) grouped ∙ outer_all inside (suc depth) (at + length t) (k + 1) (following ++ rest) (less_in c place depth rest w.less))
+      (ap (λ (l : List Node). siblings depth (k + 1) l) grouped ∙ deeper inside depth (at + length t) (suc depth) (k + 1) (following ++ rest) (omega arith)
+      ∙ outer_all c depth place (k + 1 + count inside) rest w.less)
+
+shows : (c : Content) (doc : Document) (k at depth : ℕ) (rest : List Node) (more : List Token) → Stands doc k at depth c rest more → IsShown doc k c
+shows nothing doc k at depth rest more w = tt
+shows (text b c) doc k at depth rest more w =
+    shows c doc k (at + length b) depth rest more (record { listed = w.listed; cut = next_cuts doc.source at (Text, b) (tokens c ++ more) w.cut; proper = w.proper; less = w.less })
+shows (aside b c) doc k at depth rest more w =
+    shows c doc k (at + length b) depth rest more (record { listed = w.listed; cut = next_cuts doc.source at (Aside, b) (tokens c ++ more) w.cut; proper = w.proper; less = w.less })
+shows (empty t c) doc k at depth rest more w =
+    (tells_empty doc k at depth t c rest more w, shows c doc (k + 1) (at + length t) depth rest more (after_empty doc k at depth t c rest more w))
+shows (element t inside e c) doc k at depth rest more w =
+    let place = at + length t + size inside + length e in (
+      tells_element doc k at depth t inside e c rest more w,
+      shows inside doc (k + 1) (at + length t) (suc depth) (nodes place depth c ++ rest) ((End, e) ∷ (tokens c ++ more)) (stands_in doc k at depth t inside e c rest more w),
+      shows c doc (k + 1 + count inside) place depth rest more (stands_after doc k at depth t inside e c rest more w),
+    )
+
+unmarked : (b : Bool) (bytes : List ℕ) → drop (cond b 3 0) bytes ≡ cond b (drop 3 bytes) bytes
+unmarked true bytes = refl
+unmarked false bytes = refl
+
+-- of each document the calls tell what its content says
+pub document_shown : (doc : Document) → ShowsContent doc
+unfolding ShowsContent
+document_shown doc d =
+    let at = mark_len doc.source in (
+      ap (λ (l : List Node). length l) d.shown ∙ nodes_count d.content at 0,
+      shows d.content doc 0 at 0 [] [] (record {
+        listed = d.shown ∙ sym (append-nil (nodes at 0 d.content));
+        cut = regroup (drop at doc.source) (tokens d.content) (tokens d.content ++ []) (sym (append-nil (tokens d.content)))
+            (ap (λ (b : List ℕ). pieces cut_token b) (unmarked (begins doc.source (239 ∷ 187 ∷ 191 ∷ [])) doc.source) ∙ d.cut);
+        proper = d.proper;
+        less = tt;
+      }),
+    )
