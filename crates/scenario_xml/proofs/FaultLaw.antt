@@ -23,6 +23,7 @@ use Rattle.scenario_xml.specs.declared.fault.ScenarioFault.TheVariants.{UnknownR
 use Rattle.scenario_xml.proofs.FirstFault.{first_of}
 use Rattle.scenario_xml.proofs.KnownAll.{known_is}
 use Rattle.scenario_xml.proofs.ReadOff.{nothing, is_read}
+use Rattle.scenario_xml.proofs.Refusals.{refusal}
 use Rattle.scenario_xml.proofs.Regions.{found_of, all_known, first_unknown}
 use Rattle.scenario_xml.proofs.ScenarioLaw.{contents_are}
 
@@ -38,7 +39,7 @@ unfolding contents
 child_fault doc f e =
     let stop : read_nodes (content_step doc) (children doc 0) (nothing doc) ≡ Err f = rw (known_is doc) at e in
     let w : IsFirstFault (content_step doc) (children doc 0) (nothing doc) f = first_of (λ (_ : ScenarioFault). false) (λ (s : Contents). s) (Err f) (content_step doc) (children doc 0) (nothing doc) stop in
-    record { before = w.before; node = w.node; after = w.after; state = w.state; cut = w.cut; fine = is_read doc w.before w.state w.fine; refused = w.refused }
+    record { before = w.before; node = w.node; after = w.after; state = w.state; cut = w.cut; fine = is_read doc w.before w.state w.fine; refused = refusal doc w.node w.state f w.refused }
 
 empty_when : {X : Type 0} (xs : List X) → length xs ≡ 0 → xs ≡ []
 empty_when [] e = refl

@@ -19,6 +19,7 @@ use Rattle.scenario_xml.specs.declared.fault.ScenarioFault.TheVariants.{UnknownR
 use Rattle.scenario_xml.proofs.FaultLaw.{same_fault}
 use Rattle.scenario_xml.proofs.KnownAll.{known_is}
 use Rattle.scenario_xml.proofs.ReadOff.{nothing, reads_all}
+use Rattle.scenario_xml.proofs.Refusals.{is_refused}
 use Rattle.scenario_xml.proofs.Regions.{found_of, unknown_found}
 
 -- what is read of some children is read
@@ -47,7 +48,7 @@ unfolding contents
 child_told doc f w =
     rw (known_is doc)
     (ap (λ (ks : List ℕ). read_nodes (content_step doc) ks (nothing doc)) w.cut
-    ∙ stops_at (content_step doc) w.before w.node w.after (nothing doc) w.state f (reads doc w.before w.state w.fine) w.refused)
+    ∙ stops_at (content_step doc) w.before w.node w.after (nothing doc) w.state f (reads doc w.before w.state w.fine) (is_refused doc w.node w.state f w.refused))
 
 region_told : (doc : Document) (step : ℤ) (s : Contents) (id : ℕ) → IsRead doc (children doc 0) s → IsFirstUnknown (ids_in doc) (regions_of s.problems) id → whole step s ≡ Err (UnknownRef id)
 unfolding whole

@@ -48,11 +48,11 @@ id_of_problem doc k id p e =
     ap (λ (x : Problem). x.id) (sym (same_value _ _ p refl all.2))
 
 -- the id of one more item, by what its attribute gives
-abbrev fresh : {X : Type 0} → ℕ → ScenarioFault → (X → ℕ) → List X → Result ℕ ScenarioFault → Result ℕ ScenarioFault
+abbrev pub fresh : {X : Type 0} → ℕ → ScenarioFault → (X → ℕ) → List X → Result ℕ ScenarioFault → Result ℕ ScenarioFault
 fresh limit fault id_of items found = cond (leb limit (length items)) (Err fault) (found >>= λ id. cond (list_any (λ x. eqb (id_of x) id) items) (Err (DuplicateId id)) (Ok id))
 
 -- one more item
-abbrev added : {X : Type 0} → Result ℕ ScenarioFault → (ℕ → Result X ScenarioFault) → (X → Contents) → Result Contents ScenarioFault
+abbrev pub added : {X : Type 0} → Result ℕ ScenarioFault → (ℕ → Result X ScenarioFault) → (X → Contents) → Result Contents ScenarioFault
 added id read put = id >>= λ id. read id >>= λ x. Ok (put x)
 
 module _ {X : Type 0} (limit : ℕ) (fault : ScenarioFault) (id_of : X → ℕ) (items : List X) (found : Result ℕ ScenarioFault) (read : ℕ → Result X ScenarioFault) (put : X → Contents) where

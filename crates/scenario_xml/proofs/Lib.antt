@@ -15,5 +15,6 @@ pub mod KnownAll
 pub mod ReadOff
 pub mod Regions
 pub mod ScenarioLaw
+pub mod Refusals
 pub mod FaultLaw
 pub mod FaultTold

@@ -1,5 +1,5 @@
 -- The first fault of a document that is no scenario, in document order (CommonRoad XML 2020a).
-use Rattle.std.specs.Prelude.{◌≡◌, ℕ, List, [], ◌∷◌, ◌++◌, filter, All, ℤ, Ok, Err}
+use Rattle.std.specs.Prelude.{◌≡◌, ◌≢◌, ℕ, ◌<◌, ◌≤◌, true, List, [], ◌∷◌, ◌++◌, length, filter, All, Any, ℤ, Result, Ok, Err}
 use Rattle.std.specs.List.{filter_map}
 use Rattle.std.specs.Result.{result_ok}
 use Rattle.element_tree.specs.declared.fault.MarkupFault.{MarkupFault}
@@ -8,15 +8,23 @@ use Rattle.element_tree.specs.Document.{Document}
 use Rattle.element_tree.specs.Documents.{markup}
 use Rattle.element_tree.specs.Trees.{children}
 use Rattle.scenario_model.specs.Scenario.{IsKnown}
+use Rattle.scenario_model.specs.declared.lanelet.Lanelet.{Lanelet}
+use Rattle.scenario_model.specs.declared.obstacle.Obstacle.{Obstacle}
+use Rattle.scenario_model.specs.declared.problem.Problem.{Problem}
 use Rattle.scenario_model.specs.declared.problem.Region.{Region}
 use Rattle.scenario_model.specs.declared.problem.Region.TheVariants.{OnLanelet}
 use Rattle.scenario_xml.specs.Elements.{id_attribute}
 use Rattle.scenario_xml.specs.Faults.{from_markup}
-use Rattle.scenario_xml.specs.ScenarioOf.{is_lanelet, AreReadOff, regions_of, IsRegionKnown}
-use Rattle.scenario_xml.specs.Scenarios.{root, content_step}
+use Rattle.scenario_xml.specs.Goals.{problem}
+use Rattle.scenario_xml.specs.Lanelets.{lanelet}
+use Rattle.scenario_xml.specs.Obstacles.{obstacle}
+use Rattle.scenario_xml.specs.ScenarioOf.{is_lanelet, moves, is_obstacle, is_problem, AreReadOff, regions_of, IsRegionKnown}
+use Rattle.scenario_xml.specs.Scenarios.{root}
 use Rattle.scenario_xml.specs.declared.contents.Contents.{Contents}
+use Rattle.scenario_xml.specs.declared.fault.Kind.{Kind}
+use Rattle.scenario_xml.specs.declared.fault.Kind.TheVariants as kind
 use Rattle.scenario_xml.specs.declared.fault.ScenarioFault.{ScenarioFault}
-use Rattle.scenario_xml.specs.declared.fault.ScenarioFault.TheVariants.{UnknownRef, NoProblem}
+use Rattle.scenario_xml.specs.declared.fault.ScenarioFault.TheVariants.{TooMany, DuplicateId, UnknownRef, NoProblem}
 use Rattle.scenario_xml.specs.declared.fault.Wanted.TheVariants as wanted
 
 -- the ids of all lanelets that have one
@@ -28,6 +36,26 @@ pub record IsRead (doc : Document) (nodes : List ℕ) (s : Contents) : Type 0 wh
   pub known : s.known ≡ ids_in doc
   pub items : AreReadOff doc (ids_in doc) nodes s.lanelets s.obstacles s.problems
 
+-- Why one more item of a kind is refused, after these: by its id, if it has one, and by what is read of it under an id.
+pub data IsItemRefused {X : Type 0} (what : Kind) (limit : ℕ) (id_of : X → ℕ) (items : List X) (found : Result ℕ ScenarioFault) (content : ℕ → Result X ScenarioFault) : ScenarioFault → Type 0 where
+  -- there are as many as there may be
+  too_many : limit ≤ length items → IsItemRefused what limit id_of items found content (TooMany what)
+  -- there is room, and it has no good id
+  without_id : (f : ScenarioFault) → length items < limit → found ≡ Err f → IsItemRefused what limit id_of items found content f
+  -- it has an id, which is that of an earlier one
+  same_id : (id : ℕ) → length items < limit → found ≡ Ok id → Any (λ x. id_of x ≡ id) items → IsItemRefused what limit id_of items found content (DuplicateId id)
+  -- it has an id that no earlier one has, and its content has a fault
+  in_content : (id : ℕ) (f : ScenarioFault) → length items < limit → found ≡ Ok id → All (λ x. id_of x ≢ id) items → content id ≡ Err f → IsItemRefused what limit id_of items found content f
+
+-- Why a child of the root is refused, after what was read before it.
+pub data IsRefused (doc : Document) (k : ℕ) (s : Contents) (f : ScenarioFault) : Type 0 where
+  as_lanelet : is_lanelet doc k ≡ true
+      → IsItemRefused kind.Lanelet 4000 (λ (l : Lanelet). l.id) s.lanelets (id_attribute doc k wanted.Id) (λ id. lanelet doc k id s.known) f → IsRefused doc k s f
+  as_obstacle : is_obstacle doc k ≡ true
+      → IsItemRefused kind.Obstacle 500 (λ (o : Obstacle). o.id) s.obstacles (id_attribute doc k wanted.Id) (λ id. obstacle doc k id (moves doc k)) f → IsRefused doc k s f
+  as_problem : is_problem doc k ≡ true
+      → IsItemRefused kind.Problem 64 (λ (p : Problem). p.id) s.problems (id_attribute doc k wanted.Id) (λ id. problem doc k id) f → IsRefused doc k s f
+
 -- A child of the root has a fault, after all children before it were read.
 pub record IsChildFault (doc : Document) (f : ScenarioFault) : Type 0 where
   pub before : List ℕ
@@ -36,7 +64,7 @@ pub record IsChildFault (doc : Document) (f : ScenarioFault) : Type 0 where
   pub state : Contents
   pub cut : children doc 0 ≡ before ++ node ∷ after
   pub fine : IsRead doc before state
-  pub refused : content_step doc node state ≡ Err f
+  pub refused : IsRefused doc node state f
 
 -- A region refers to a lanelet that the document lacks, and all regions before it to none that it lacks.
 pub record IsFirstUnknown (ids : List ℕ) (regions : List Region) (id : ℕ) : Type 0 where
