@@ -18,4 +18,5 @@ pub mod Outer
 pub mod Heads
 pub mod TextLaws
 pub mod TagLaws
+pub mod Listings
 pub mod ShownLaws

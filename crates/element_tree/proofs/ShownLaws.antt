@@ -1,5 +1,5 @@
 -- The calls on a tree tell what its content says.
-use Rattle.std.proofs.Common.{◌≡◌, ℕ, suc, ◌+◌, Bool, true, false, cond, List, [], ◌∷◌, ◌++◌, length, take, drop, get_or, Some, refl, ap, sym, ◌∙◌, append_assoc, subst, arith}
+use Rattle.std.proofs.Common.{◌≡◌, ℕ, suc, ◌+◌, Bool, true, false, cond, List, [], ◌∷◌, ◌++◌, length, take, drop, get_or, Some, Ok, refl, ap, sym, ◌∙◌, append_assoc, subst, arith}
 use Rattle.std.specs.Prelude.{option_map, codes, nat_eq}
 use Rattle.std.specs.List.{ends_with}
 use Rattle.std.proofs.Math.Seq.{drop-append_seam}
@@ -12,12 +12,15 @@ use Rattle.element_tree.specs.Tokens.{begins, cut_token}
 use Rattle.element_tree.specs.Tags.{attribute_at, start_tag}
 use Rattle.element_tree.specs.Document.{Document}
 use Rattle.element_tree.specs.Trees.{no_node, node_of, tag_of, after_tag, trim, text_before_end, text_of, siblings, children, younger}
-use Rattle.element_tree.specs.Contents.{Content, nothing, text, aside, empty, element, tokens, IsProper, size, nodes, mark_len}
+use Rattle.element_tree.specs.Contents.{Content, nothing, text, aside, empty, element, tokens, IsProper, size, nodes, mark_len, after_mark, IsDocument}
 use Rattle.element_tree.specs.Shown.{count, outer, text_alone, HasParts, Tells, IsShown, ShowsContent}
 use Rattle.element_tree.proofs.Heads.{first_token}
 use Rattle.element_tree.proofs.Outer.{AreLess, less_in, deeper, outer_all, nodes_count}
 use Rattle.element_tree.proofs.TagLaws.{name_in, past_name, tag_name, tag_parts, slash_is_empty}
 use Rattle.element_tree.proofs.TextLaws.{text_is_alone}
+use Rattle.element_tree.proofs.Listings.{same_nodes}
+use Rattle.element_tree.proofs.Wholes.{markup_whole}
+use Rattle.element_tree.specs.Documents.{markup}
 
 abbrev Token : Type 0
 Token = Kind × List ℕ
@@ -192,17 +195,21 @@ unmarked : (b : Bool) (bytes : List ℕ) → drop (cond b 3 0) bytes ≡ cond b 
 unmarked true bytes = refl
 unmarked false bytes = refl
 
--- of each document the calls tell what its content says
-pub document_shown : (doc : Document) → ShowsContent doc
+shown_all : (doc : Document) → IsDocument (mark_len doc.source) (after_mark doc.source) doc.nodes → ShowsContent doc
 unfolding ShowsContent
-document_shown doc d =
-    let at = mark_len doc.source in (
-      ap (λ (l : List Node). length l) d.shown ∙ nodes_count d.content at 0,
-      shows d.content doc 0 at 0 [] [] (record {
-        listed = d.shown ∙ sym (append-nil (nodes at 0 d.content));
-        cut = regroup (drop at doc.source) (tokens d.content) (tokens d.content ++ []) (sym (append-nil (tokens d.content)))
-            (ap (λ (b : List ℕ). pieces cut_token b) (unmarked (begins doc.source (239 ∷ 187 ∷ 191 ∷ [])) doc.source) ∙ d.cut);
-        proper = d.proper;
+shown_all doc d c p cut =
+    let at = mark_len doc.source in
+    let listed : doc.nodes ≡ nodes at 0 c = d.shown ∙ same_nodes d.content c d.proper p (ap (λ (x : List Token × List ℕ). x.0) (sym d.cut ∙ cut)) at in (
+      ap (λ (l : List Node). length l) listed ∙ nodes_count c at 0,
+      shows c doc 0 at 0 [] [] (record {
+        listed = listed ∙ sym (append-nil (nodes at 0 c));
+        cut = regroup (drop at doc.source) (tokens c) (tokens c ++ []) (sym (append-nil (tokens c)))
+            (ap (λ (b : List ℕ). pieces cut_token b) (unmarked (begins doc.source (239 ∷ 187 ∷ 191 ∷ [])) doc.source) ∙ cut);
+        proper = p;
         less = tt;
       }),
     )
+
+-- of each document that is read the calls tell what its content says
+pub document_shown : (bytes : List ℕ) (nodes : List Node) → markup bytes ≡ Ok nodes → ShowsContent (record { source = bytes; nodes = nodes })
+document_shown bytes nodes e = shown_all (record { source = bytes; nodes = nodes }) (markup_whole bytes nodes e)

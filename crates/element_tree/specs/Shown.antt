@@ -2,9 +2,10 @@
 use Rattle.std.specs.Prelude.{◌≡◌, ℕ, ◌+◌, Bool, true, false, List, [], ◌∷◌, ◌++◌, length, drop, Option, Some, None, option_map}
 use Rattle.element_tree.specs.Pieces.{pieces}
 use Rattle.element_tree.specs.Tags.{name_at, attribute_at, is_empty_at, start_tag}
+use Rattle.element_tree.specs.Tokens.{cut_token}
 use Rattle.element_tree.specs.Document.{Document}
 use Rattle.element_tree.specs.Trees.{tag_of, name_of, attributes_of, trim, text_of, children, younger}
-use Rattle.element_tree.specs.Contents.{Content, nothing, text, aside, empty, element, mark_len, after_mark, IsDocument}
+use Rattle.element_tree.specs.Contents.{Content, nothing, text, aside, empty, element, tokens, IsProper, after_mark}
 
 -- how many elements
 abbrev pub count : Content → ℕ
@@ -53,6 +54,7 @@ IsShown doc k (aside bytes after) = IsShown doc k after
 IsShown doc k (empty tag after) = Tells doc k tag true nothing after × IsShown doc (k + 1) after
 IsShown doc k (element tag inside ending after) = Tells doc k tag false inside after × IsShown doc (k + 1) inside × IsShown doc (k + 1 + count inside) after
 
--- whatever content the document is of, its elements are shown, and there are no others
+-- whatever content the document is the tokens of, the calls show its elements, and there are no others
 unfoldable pub ShowsContent : Document → Type 0
-ShowsContent doc = (d : IsDocument (mark_len doc.source) (after_mark doc.source) doc.nodes) → (length doc.nodes ≡ count d.content) × IsShown doc 0 d.content
+ShowsContent doc =
+    (content : Content) → IsProper content → pieces cut_token (after_mark doc.source) ≡ (tokens content, []) → (length doc.nodes ≡ count content) × IsShown doc 0 content

@@ -50,8 +50,8 @@ pub fn read_tree<'a>(alloc: Global, bytes: &'a [u8]) -> Result<Tree<'a>, MarkupF
     ensures spelled { IfOk result (λ t. IsDocument (mark_len bytes.now) (after_mark bytes.now) t.nodes) }
     ensures refused { IfErr result (λ f. OnFalse (is_memory f) (IsNoDocument (mark_len bytes.now) (after_mark bytes.now))) }
 
-    // Of each element the calls tell what the content says: its tag with its name and its attributes, its text,
-    // the elements directly in it, and those after it in the same element.
+    // Of each element the calls tell what the content says, whatever content the document is the tokens of:
+    // its tag with its name and its attributes, its text, the elements directly in it, and those after it in the same element.
     ensures shown { IfOk result (λ t. ShowsContent t) }
 {
     let nodes = read_nodes(alloc, bytes)?;
