@@ -170,48 +170,59 @@ fn words_with_no_reading_are_told_so(rt: HostRuntime) -> Result<(), Fail> {
 
 #[test]
 fn a_load_that_fails_is_told_with_its_role(rt: HostRuntime) -> Result<(), Fail> {
-    let rows: [(&str, &str, u64, &[u8]); 4] = [
-        ("b", "t", 1, b"cannot read book\n"),
-        ("b", "t", 2, b"cannot read table\n"),
-        ("none", "t", 0, b"cannot read book\n"),
-        ("b", "none", 0, b"cannot read table\n"),
+    let rows: [(&[&str], u64, &[u8]); 10] = [
+        (&["pick", "b", "t"], 1, b"cannot read book\n"),
+        (&["pick", "b", "t"], 2, b"cannot read table\n"),
+        (&["pick", "none", "t"], 0, b"cannot read book\n"),
+        (&["pick", "b", "none"], 0, b"cannot read table\n"),
+        (&["compare", "b", "t"], 1, b"cannot read book\n"),
+        (&["compare", "b", "t"], 2, b"cannot read table\n"),
+        (&["compare", "none", "t"], 0, b"cannot read book\n"),
+        (&["compare", "b", "none"], 0, b"cannot read table\n"),
+        (&["show", "b"], 1, b"cannot read scenario\n"),
+        (&["show", "none"], 0, b"cannot read scenario\n"),
     ];
-    for command in ["pick", "compare"] {
-        for (book, table, load, text) in rows {
-            let failing = Failing {
-                load,
-                write: 0,
-                kept: 0,
-            };
-            let (status, written) = run(
-                rt.alloc(),
-                &[command, book, table],
-                ABOVE,
-                THREE,
-                &failing,
-            )?;
-            assert_eq!(rt; status, Status::ReadFault);
-            assert_eq!(rt; written.as_slice(), text);
-        }
+    for (words, load, text) in rows {
+        let failing = Failing {
+            load,
+            write: 0,
+            kept: 0,
+        };
+        let (status, written) = run(rt.alloc(), words, ABOVE, THREE, &failing)?;
+        assert_eq!(rt; status, Status::ReadFault);
+        assert_eq!(rt; written.as_slice(), text);
     }
     Ok(())
 }
 
+/// A scenario with a problem and nothing else.
+const BARE: &[u8] =
+    b"<commonRoad commonRoadVersion='2020a' timeStepSize='1'><planningProblem id='4'><initialState><position><point><x>1</x><y>2</y></point></position></initialState><goalState><time><exact>3</exact></time></goalState></planningProblem></commonRoad>";
+
 #[test]
 fn a_write_that_fails_leaves_a_front(rt: HostRuntime) -> Result<(), Fail> {
-    let rows: [(&str, usize, &[u8]); 4] = [
-        ("pick", 0, b""),
-        ("pick", 3, b"y 0"),
-        ("pick", 1000, b"y 0 5 0\n"),
-        ("compare", 14, b"x y second a\nx"),
+    let rows: [(&[&str], &[u8], usize, &[u8]); 8] = [
+        (&["pick", "b", "t"], ABOVE, 0, b""),
+        (&["pick", "b", "t"], ABOVE, 3, b"y 0"),
+        (&["pick", "b", "t"], ABOVE, 1000, b"y 0 5 0\n"),
+        (&["compare", "b", "t"], ABOVE, 14, b"x y second a\nx"),
+        (&["show", "b"], BARE, 0, b""),
+        (&["show", "b"], BARE, 19, b"version 2020a\nstep "),
+        (
+            &["show", "b"],
+            BARE,
+            1000,
+            b"version 2020a\nstep 1000000\nlanelets 0\nobstacles 0\nproblems 1\nproblem 4 x 10000 y 20000 heading 0 speed 0 tick 0 goals 1\n",
+        ),
+        (&["show", "b"], b"<lanelet/>", 16, b"refused scenario"),
     ];
-    for (command, kept, text) in rows {
+    for (words, first, kept, text) in rows {
         let failing = Failing {
             load: 0,
             write: 1,
             kept,
         };
-        let (status, written) = run(rt.alloc(), &[command, "b", "t"], ABOVE, THREE, &failing)?;
+        let (status, written) = run(rt.alloc(), words, first, THREE, &failing)?;
         assert_eq!(rt; status, Status::WriteFault);
         assert_eq!(rt; written.as_slice(), text);
     }
@@ -227,6 +238,19 @@ fn a_file_that_is_too_long_is_refused(rt: HostRuntime) -> Result<(), Fail> {
     let (status, written) = run(rt.alloc(), &["compare", "b", "t"], ABOVE, &long, &NOTHING)?;
     assert_eq!(rt; status, Status::Refused);
     assert_eq!(rt; written.as_slice(), b"refused table too-long\n".as_slice());
+    let (status, written) = run(rt.alloc(), &["show", "b"], &long, THREE, &NOTHING)?;
+    assert_eq!(rt; status, Status::Refused);
+    assert_eq!(rt;
+        written.as_slice(),
+        b"refused scenario too-long\n".as_slice()
+    );
+    let most = vec![in rt.alloc(); b'\n'; 16_777_216]?;
+    let (status, written) = run(rt.alloc(), &["show", "b"], &most, THREE, &NOTHING)?;
+    assert_eq!(rt; status, Status::Refused);
+    assert_eq!(rt;
+        written.as_slice(),
+        b"refused scenario truncated 16777216\n".as_slice()
+    );
     Ok(())
 }
 
