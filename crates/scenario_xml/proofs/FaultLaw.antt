@@ -23,12 +23,9 @@ use Rattle.scenario_xml.specs.declared.fault.ScenarioFault.TheVariants.{UnknownR
 use Rattle.scenario_xml.proofs.FirstFault.{first_of}
 use Rattle.scenario_xml.proofs.KnownAll.{known_is}
 use Rattle.scenario_xml.proofs.ReadOff.{nothing, is_read}
-use Rattle.scenario_xml.proofs.Refusals.{refusal}
+use Rattle.scenario_xml.proofs.Refusals.{same_fault, refusal}
 use Rattle.scenario_xml.proofs.Regions.{found_of, all_known, first_unknown}
 use Rattle.scenario_xml.proofs.ScenarioLaw.{contents_are}
-
-pub same_fault : {A F : Type 0} (r : Result A F) (e f : F) → r ≡ Err e → r ≡ Err f → e ≡ f
-same_fault r e f h k = cc
 
 abbrev refused : {A : Type 0} {g f : ScenarioFault} → g ≡ f → ◌≡◌ {A = Result A ScenarioFault} (Err g) (Err f)
 refused e = ap (λ (d : ScenarioFault). Err d) e

@@ -16,10 +16,9 @@ use Rattle.scenario_xml.specs.Scenarios.{content_step, contents, first_in, unkno
 use Rattle.scenario_xml.specs.declared.contents.Contents.{Contents}
 use Rattle.scenario_xml.specs.declared.fault.ScenarioFault.{ScenarioFault}
 use Rattle.scenario_xml.specs.declared.fault.ScenarioFault.TheVariants.{UnknownRef}
-use Rattle.scenario_xml.proofs.FaultLaw.{same_fault}
 use Rattle.scenario_xml.proofs.KnownAll.{known_is}
 use Rattle.scenario_xml.proofs.ReadOff.{nothing, reads_all}
-use Rattle.scenario_xml.proofs.Refusals.{is_refused}
+use Rattle.scenario_xml.proofs.Refusals.{same_fault, is_refused}
 use Rattle.scenario_xml.proofs.Regions.{found_of, unknown_found}
 
 -- what is read of some children is read

@@ -10,7 +10,7 @@ use Rattle.scenario_model.specs.declared.obstacle.Obstacle.{Obstacle}
 use Rattle.scenario_model.specs.declared.problem.Problem.{Problem}
 use Rattle.scenario_xml.specs.Elements.{wanted_child, id_attribute}
 use Rattle.scenario_xml.specs.Goals.{goals, problem}
-use Rattle.scenario_xml.specs.Lanelets.{lanelet}
+use Rattle.scenario_xml.specs.Lanelets.{bound, refs, adjacent, lanelet}
 use Rattle.scenario_xml.specs.Obstacles.{form, course, obstacle_unless, obstacle}
 use Rattle.scenario_xml.specs.ScenarioOf.{moves, IsLaneletAt, IsObstacleAt, IsProblemAt}
 use Rattle.scenario_xml.specs.Scenarios.{has_lanelet, has_obstacle, has_problem, lanelet_id, obstacle_id, problem_id, lanelet_step, obstacle_step, problem_step}
@@ -20,13 +20,24 @@ use Rattle.scenario_xml.specs.declared.fault.Kind.TheVariants as kind
 use Rattle.scenario_xml.specs.declared.fault.ScenarioFault.{ScenarioFault}
 use Rattle.scenario_xml.specs.declared.fault.ScenarioFault.TheVariants.{DuplicateId, TooMany}
 use Rattle.scenario_xml.specs.declared.fault.Wanted.TheVariants as wanted
+use Rattle.scenario_xml.specs.declared.lanelet.Way.TheVariants as way
 use Rattle.scenario_xml.proofs.Groups.{IsNext, found_none, none_found}
-use Rattle.scenario_xml.proofs.KnownIds.{id_of_lanelet}
 
 pub same_value : {S F : Type 0} (r : Result S F) (s t : S) → r ≡ Ok s → r ≡ Ok t → s ≡ t
 same_value r s t e h = cc
 
--- an obstacle, and a problem, has the id that it was read with, and an obstacle moves as it was read
+-- a lanelet, an obstacle and a problem has the id that it was read with, and an obstacle moves as it was read
+id_of_lanelet : (doc : Document) (k id : ℕ) (known : List ℕ) (l : Lanelet) → lanelet doc k id known ≡ Ok l → l.id ≡ id
+unfolding lanelet
+id_of_lanelet doc k id known l e =
+    let left = bind_ok (bound doc k id wanted.LeftBound) _ l e in
+    let right = bind_ok (bound doc k id wanted.RightBound) _ l left.2 in
+    let back = bind_ok (refs doc k known way.Back) _ l right.2 in
+    let ahead = bind_ok (refs doc k known way.Ahead) _ l back.2 in
+    let beside_left = bind_ok (adjacent doc k known way.Left) _ l ahead.2 in
+    let beside_right = bind_ok (adjacent doc k known way.Right) _ l beside_left.2 in
+    ap (λ (x : Lanelet). x.id) (sym (same_value _ _ l refl beside_right.2))
+
 obstacle_case : (doc : Document) (k id : ℕ) (moving : Bool) (o : Obstacle) (found : Option ℕ) → obstacle_unless doc k id moving found ≡ Ok o → (o.id ≡ id) × (o.moving ≡ moving)
 obstacle_case doc k id moving o (Some c) e = absurd cc
 obstacle_case doc k id moving o None e =

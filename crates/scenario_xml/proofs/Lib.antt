@@ -1,6 +1,4 @@
 pub mod Ids
-pub mod KnownIds
-pub mod ContentsLaws
 pub mod NodeLaws
 pub mod Unknowns
 pub mod Roots
@@ -18,3 +16,4 @@ pub mod ScenarioLaw
 pub mod Refusals
 pub mod FaultLaw
 pub mod FaultTold
+pub mod ContentsLaws

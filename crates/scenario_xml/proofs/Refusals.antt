@@ -1,5 +1,5 @@
 -- A child of the root is refused just where the definition refuses it.
-use Rattle.std.proofs.Common.{◌≡◌, ◌≢◌, ℕ, ◌<◌, ◌≤◌, Bool, true, false, cond, eqb, leb, List, ◌∷◌, [], ◌++◌, length, Result, Ok, Err, refl, sym, subst, ◌∙◌}
+use Rattle.std.proofs.Common.{◌≡◌, ◌≢◌, ℕ, ◌<◌, Bool, true, false, cond, eqb, leb, List, ◌∷◌, [], ◌++◌, length, Result, Ok, Err, refl, sym, subst, ◌∙◌}
 use Rattle.std.specs.List.{All, Any, list_any}
 use Rattle.std.proofs.lemmas.Bool.{leb-true, leb-false, le-leb, lt-leb, eq-eqb, eqb-true}
 use Rattle.std.proofs.lemmas.List.Folds.{Any-from_list_any, list_any-from_Any}
@@ -25,15 +25,15 @@ use Rattle.scenario_xml.proofs.Groups.{found_none, none_found}
 use Rattle.scenario_xml.proofs.ItemSteps.{fresh, added}
 use Rattle.scenario_xml.proofs.Sorts.{Sort, a_lanelet, an_obstacle, a_problem, another, sort_of}
 
-told : {A : Type 0} (r : Result A ScenarioFault) (e f : ScenarioFault) → r ≡ Err e → r ≡ Err f → e ≡ f
-told r e f h k = cc
+pub same_fault : {A F : Type 0} (r : Result A F) (e f : F) → r ≡ Err e → r ≡ Err f → e ≡ f
+same_fault r e f h k = cc
 
 module _ {X : Type 0} (what : Kind) (limit : ℕ) (id_of : X → ℕ) (items : List X) (found : Result ℕ ScenarioFault) (content : ℕ → Result X ScenarioFault) (put : X → Contents) where
   abbrev Refused : ScenarioFault → Type 0
   Refused f = IsItemRefused what limit id_of items found content f
 
   abbrev instead : (f g : ScenarioFault) → ◌≡◌ {A = Result Contents ScenarioFault} (Err f) (Err g) → Refused f → Refused g
-  instead f g e h = subst Refused (told (Err f) f g refl e) h
+  instead f g e h = subst Refused (same_fault {A = Contents} (Err f) f g refl e) h
 
   one_has : (id : ℕ) → list_any (λ x. eqb (id_of x) id) items ≡ true → Any (λ x. id_of x ≡ id) items
   one_has id h =

@@ -31,17 +31,17 @@ pub record AreGoals (s : GoalsSoFar) : Type 0 where
 
 -- what was read of the root so far
 pub record AreContents (c : Contents) : Type 0 where
-  pub lanelet_count : length c.lanelets ≤ 4000
   pub lanelets : All (IsLanelet c.known) c.lanelets
-  pub different_lanelets : HaveDifferentIds (λ (l : Lanelet). l.id) c.lanelets
-  pub obstacle_count : length c.obstacles ≤ 500
   pub obstacles : All IsObstacle c.obstacles
-  pub different_obstacles : HaveDifferentIds (λ (o : Obstacle). o.id) c.obstacles
-  pub problem_count : length c.problems ≤ 64
   pub problems : All IsSoundProblem c.problems
-  pub different_problems : HaveDifferentIds (λ (p : Problem). p.id) c.problems
 
--- what was read of a whole root: the ids that are known are those of its lanelets
+-- what was read of a whole root: no more of each kind than may be, no two of a kind with one id, and the ids that are known are those of its lanelets
 pub record AreWhole (c : Contents) : Type 0 where
   pub contents : AreContents c
   pub known : c.known ≡ map (λ (l : Lanelet). l.id) c.lanelets
+  pub lanelet_count : length c.lanelets ≤ 4000
+  pub different_lanelets : HaveDifferentIds (λ (l : Lanelet). l.id) c.lanelets
+  pub obstacle_count : length c.obstacles ≤ 500
+  pub different_obstacles : HaveDifferentIds (λ (o : Obstacle). o.id) c.obstacles
+  pub problem_count : length c.problems ≤ 64
+  pub different_problems : HaveDifferentIds (λ (p : Problem). p.id) c.problems

@@ -1,4 +1,4 @@
-ghost use Rattle.std.specs.Prelude.{⊤, ◌≡◌, ◌<◌, ◌^◌, false, length, IfOk, OnOk};
+ghost use Rattle.std.specs.Prelude.{⊤, ◌≡◌, ◌<◌, ◌^◌, length, IfOk, OnOk};
 ghost use Rattle.reading.specs.Reading.{Gives};
 ghost use Rattle.scenario_xml.specs.Faults.{is_memory};
 ghost use Rattle.scenario_xml.specs.Scenarios.{has_lanelet, has_obstacle, has_problem, lanelet_id, obstacle_id, problem_id, lanelet_step, obstacle_step, problem_step, content_step, known_step, known, contents};
@@ -50,8 +50,6 @@ fn lanelet_id(tree: &Tree<'_>, node: u32, lanelets: &[Lanelet]) -> Result<u64, S
     requires { node < length tree.now.nodes }
     ensures exact { Gives is_memory (λ id. id) result (lanelet_id tree.now node lanelets.now) }
     ensures small { IfOk result (λ id. id < 10 ^ 18) }
-    ensures new { IfOk result (λ id. has_lanelet id lanelets.now ≡ false) }
-    ensures few { IfOk result (λ _. length lanelets.now < 4000) }
 {
     if lanelets.len() >= MAX_LANELETS {
         return Err(ScenarioFault::TooMany(Kind::Lanelet));
@@ -69,8 +67,6 @@ fn obstacle_id(tree: &Tree<'_>, node: u32, obstacles: &[Obstacle]) -> Result<u64
     requires { node < length tree.now.nodes }
     ensures exact { Gives is_memory (λ id. id) result (obstacle_id tree.now node obstacles.now) }
     ensures small { IfOk result (λ id. id < 10 ^ 18) }
-    ensures new { IfOk result (λ id. has_obstacle id obstacles.now ≡ false) }
-    ensures few { IfOk result (λ _. length obstacles.now < 500) }
 {
     if obstacles.len() >= MAX_OBSTACLES {
         return Err(ScenarioFault::TooMany(Kind::Obstacle));
@@ -88,8 +84,6 @@ fn problem_id(tree: &Tree<'_>, node: u32, problems: &[Problem]) -> Result<u64, S
     requires { node < length tree.now.nodes }
     ensures exact { Gives is_memory (λ id. id) result (problem_id tree.now node problems.now) }
     ensures small { IfOk result (λ id. id < 10 ^ 18) }
-    ensures new { IfOk result (λ id. has_problem id problems.now ≡ false) }
-    ensures few { IfOk result (λ _. length problems.now < 64) }
 {
     if problems.len() >= MAX_PROBLEMS {
         return Err(ScenarioFault::TooMany(Kind::Problem));

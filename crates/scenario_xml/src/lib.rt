@@ -1,7 +1,7 @@
 //! The driving scenario of a CommonRoad XML document (version 2020a), as far as it is read here.
 //!
-//! The layer above uses that `read_scenario` gives the scenario of `specs/Scenarios.antt`, or the first fault in the order that stands there.
-//! Each element has a definition of its own in `specs/`, and one function that gives it.
+//! The layer above uses that `read_scenario` gives the scenario of `specs/Scenarios.antt`, or the first fault in the order that stands there, and that a scenario is well formed.
+//! Each element has a definition of its own in `specs/`, and one function that gives it. What the whole comes to stands in `specs/ScenarioOf.antt` and `ScenarioFaults.antt`.
 #![tactic(auto)]
 
 mod children;

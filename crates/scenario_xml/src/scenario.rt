@@ -61,7 +61,7 @@ fn whole(step_micros: i64, contents: Contents) -> Result<Scenario, ScenarioFault
 }
 
 /// The scenario of a tree.
-#[tactic(auto, unfolding(crate::specs::Scenarios::scenario_in), using(crate::proofs::KnownIds::whole_contents))]
+#[tactic(auto, unfolding(crate::specs::Scenarios::scenario_in))]
 fn scenario_in(alloc: Global, tree: &Tree<'_>) -> Result<Scenario, ScenarioFault>
     ensures exact { Gives is_memory (λ s. s) result (scenario_in tree.now) }
     ensures sound { IfOk result IsScenario }
