@@ -13,7 +13,7 @@ use Rattle.scenario_xml.specs.Goals.{goals, problem}
 use Rattle.scenario_xml.specs.Lanelets.{bound, refs, adjacent, lanelet}
 use Rattle.scenario_xml.specs.Obstacles.{form, course, obstacle_unless, obstacle}
 use Rattle.scenario_xml.specs.ScenarioOf.{moves, IsLaneletAt, IsObstacleAt, IsProblemAt}
-use Rattle.scenario_xml.specs.Scenarios.{has_lanelet, has_obstacle, has_problem, lanelet_id, obstacle_id, problem_id, lanelet_step, obstacle_step, problem_step}
+use Rattle.scenario_xml.specs.Scenarios.{has_id, new_id, lanelet_step, obstacle_step, problem_step}
 use Rattle.scenario_xml.specs.States.{pose}
 use Rattle.scenario_xml.specs.declared.contents.Contents.{Contents}
 use Rattle.scenario_xml.specs.declared.fault.Kind.TheVariants as kind
@@ -116,13 +116,13 @@ pub record AddsProblem (doc : Document) (k : ℕ) (s t : Contents) : Type 0 wher
   pub whole : t ≡ record s { problems = s.problems ++ item ∷ [] }
 
 pub lanelet_is_added : (doc : Document) (k : ℕ) (s t : Contents) → lanelet_step doc k s ≡ Ok t → AddsLanelet doc k s t
-unfolding lanelet_step lanelet_id has_lanelet
+unfolding lanelet_step new_id has_id
 lanelet_is_added doc k s t e =
     let w = is_added 4000 (TooMany kind.Lanelet) (λ (l : Lanelet). l.id) s.lanelets (id_attribute doc k wanted.Id) (λ id. lanelet doc k id s.known) (λ l. record s { lanelets = s.lanelets ++ l ∷ [] }) (λ id l h. id_of_lanelet doc k id s.known l h) t e in
     record { item = w.item; read = record { id = w.id; content = w.content }; next = w.next; whole = w.whole }
 
 pub obstacle_is_added : (doc : Document) (k : ℕ) (s t : Contents) → obstacle_step doc k (moves doc k) s ≡ Ok t → AddsObstacle doc k s t
-unfolding obstacle_step obstacle_id has_obstacle
+unfolding obstacle_step new_id has_id
 obstacle_is_added doc k s t e =
     let w = is_added 500 (TooMany kind.Obstacle) (λ (o : Obstacle). o.id) s.obstacles (id_attribute doc k wanted.Id) (λ id. obstacle doc k id (moves doc k)) (λ o. record s { obstacles = s.obstacles ++ o ∷ [] })
     (λ id o h. (obstacle_is doc k id (moves doc k) o h).0) t e in
@@ -135,26 +135,26 @@ obstacle_is_added doc k s t e =
     }
 
 pub problem_is_added : (doc : Document) (k : ℕ) (s t : Contents) → problem_step doc k s ≡ Ok t → AddsProblem doc k s t
-unfolding problem_step problem_id has_problem
+unfolding problem_step new_id has_id
 problem_is_added doc k s t e =
     let w = is_added 64 (TooMany kind.Problem) (λ (p : Problem). p.id) s.problems (id_attribute doc k wanted.Id) (λ id. problem doc k id) (λ p. record s { problems = s.problems ++ p ∷ [] }) (λ id p h. id_of_problem doc k id p h) t e in
     record { item = w.item; read = record { id = w.id; content = w.content }; next = w.next; whole = w.whole }
 
 pub adds_lanelet : (doc : Document) (k : ℕ) (s : Contents) (l : Lanelet) → IsLaneletAt doc s.known k l → IsNext (λ (l : Lanelet). l.id) 4000 s.lanelets l
     → lanelet_step doc k s ≡ Ok (record s { lanelets = s.lanelets ++ l ∷ [] })
-unfolding lanelet_step lanelet_id has_lanelet
+unfolding lanelet_step new_id has_id
 adds_lanelet doc k s l h next =
     adds 4000 (TooMany kind.Lanelet) (λ (l : Lanelet). l.id) s.lanelets (id_attribute doc k wanted.Id) (λ id. lanelet doc k id s.known) (λ l. record s { lanelets = s.lanelets ++ l ∷ [] }) l h.id h.content next
 
 pub adds_obstacle : (doc : Document) (k : ℕ) (s : Contents) (o : Obstacle) → IsObstacleAt doc k o → IsNext (λ (o : Obstacle). o.id) 500 s.obstacles o
     → obstacle_step doc k (moves doc k) s ≡ Ok (record s { obstacles = s.obstacles ++ o ∷ [] })
-unfolding obstacle_step obstacle_id has_obstacle
+unfolding obstacle_step new_id has_id
 adds_obstacle doc k s o h next =
     let content : obstacle doc k o.id (moves doc k) ≡ Ok o = subst (λ (b : Bool). obstacle doc k o.id b ≡ Ok o) h.moving h.content in
     adds 500 (TooMany kind.Obstacle) (λ (o : Obstacle). o.id) s.obstacles (id_attribute doc k wanted.Id) (λ id. obstacle doc k id (moves doc k)) (λ o. record s { obstacles = s.obstacles ++ o ∷ [] }) o h.id content next
 
 pub adds_problem : (doc : Document) (k : ℕ) (s : Contents) (p : Problem) → IsProblemAt doc k p → IsNext (λ (p : Problem). p.id) 64 s.problems p
     → problem_step doc k s ≡ Ok (record s { problems = s.problems ++ p ∷ [] })
-unfolding problem_step problem_id has_problem
+unfolding problem_step new_id has_id
 adds_problem doc k s p h next =
     adds 64 (TooMany kind.Problem) (λ (p : Problem). p.id) s.problems (id_attribute doc k wanted.Id) (λ id. problem doc k id) (λ p. record s { problems = s.problems ++ p ∷ [] }) p h.id h.content next

@@ -14,7 +14,7 @@ use Rattle.scenario_xml.specs.Lanelets.{lanelet}
 use Rattle.scenario_xml.specs.Obstacles.{obstacle}
 use Rattle.scenario_xml.specs.ScenarioFaults.{IsItemRefused, too_many, without_id, same_id, in_content, IsRefused, as_lanelet, as_obstacle, as_problem}
 use Rattle.scenario_xml.specs.ScenarioOf.{is_lanelet, moves, is_obstacle, is_problem}
-use Rattle.scenario_xml.specs.Scenarios.{has_lanelet, has_obstacle, has_problem, lanelet_id, obstacle_id, problem_id, lanelet_step, obstacle_step, problem_step, content_step}
+use Rattle.scenario_xml.specs.Scenarios.{has_id, new_id, lanelet_step, obstacle_step, problem_step, content_step}
 use Rattle.scenario_xml.specs.declared.contents.Contents.{Contents}
 use Rattle.scenario_xml.specs.declared.fault.Kind.{Kind}
 use Rattle.scenario_xml.specs.declared.fault.Kind.TheVariants as kind
@@ -76,19 +76,19 @@ module _ {X : Type 0} (what : Kind) (limit : ℕ) (id_of : X → ℕ) (items : L
 
 refused_lanelet : (doc : Document) (k : ℕ) (s : Contents) (f : ScenarioFault) → lanelet_step doc k s ≡ Err f
     → IsItemRefused kind.Lanelet 4000 (λ (l : Lanelet). l.id) s.lanelets (id_attribute doc k wanted.Id) (λ id. lanelet doc k id s.known) f
-unfolding lanelet_step lanelet_id has_lanelet
+unfolding lanelet_step new_id has_id
 refused_lanelet doc k s f e =
     refused_by kind.Lanelet 4000 (λ (l : Lanelet). l.id) s.lanelets (id_attribute doc k wanted.Id) (λ id. lanelet doc k id s.known) (λ l. record s { lanelets = s.lanelets ++ l ∷ [] }) f e
 
 refused_obstacle : (doc : Document) (k : ℕ) (s : Contents) (f : ScenarioFault) → obstacle_step doc k (moves doc k) s ≡ Err f
     → IsItemRefused kind.Obstacle 500 (λ (o : Obstacle). o.id) s.obstacles (id_attribute doc k wanted.Id) (λ id. obstacle doc k id (moves doc k)) f
-unfolding obstacle_step obstacle_id has_obstacle
+unfolding obstacle_step new_id has_id
 refused_obstacle doc k s f e =
     refused_by kind.Obstacle 500 (λ (o : Obstacle). o.id) s.obstacles (id_attribute doc k wanted.Id) (λ id. obstacle doc k id (moves doc k)) (λ o. record s { obstacles = s.obstacles ++ o ∷ [] }) f e
 
 refused_problem : (doc : Document) (k : ℕ) (s : Contents) (f : ScenarioFault) → problem_step doc k s ≡ Err f
     → IsItemRefused kind.Problem 64 (λ (p : Problem). p.id) s.problems (id_attribute doc k wanted.Id) (λ id. problem doc k id) f
-unfolding problem_step problem_id has_problem
+unfolding problem_step new_id has_id
 refused_problem doc k s f e =
     refused_by kind.Problem 64 (λ (p : Problem). p.id) s.problems (id_attribute doc k wanted.Id) (λ id. problem doc k id) (λ p. record s { problems = s.problems ++ p ∷ [] }) f e
 
@@ -122,20 +122,20 @@ at_problem doc k s (another other third fourth same) h = absurd cc
 
 lanelet_told : (doc : Document) (k : ℕ) (s : Contents) (f : ScenarioFault)
     → IsItemRefused kind.Lanelet 4000 (λ (l : Lanelet). l.id) s.lanelets (id_attribute doc k wanted.Id) (λ id. lanelet doc k id s.known) f → lanelet_step doc k s ≡ Err f
-unfolding lanelet_step lanelet_id has_lanelet
+unfolding lanelet_step new_id has_id
 lanelet_told doc k s f h =
     is_told kind.Lanelet 4000 (λ (l : Lanelet). l.id) s.lanelets (id_attribute doc k wanted.Id) (λ id. lanelet doc k id s.known) (λ l. record s { lanelets = s.lanelets ++ l ∷ [] }) f h
 
 obstacle_told : (doc : Document) (k : ℕ) (s : Contents) (f : ScenarioFault)
     → IsItemRefused kind.Obstacle 500 (λ (o : Obstacle). o.id) s.obstacles (id_attribute doc k wanted.Id) (λ id. obstacle doc k id (moves doc k)) f
     → obstacle_step doc k (moves doc k) s ≡ Err f
-unfolding obstacle_step obstacle_id has_obstacle
+unfolding obstacle_step new_id has_id
 obstacle_told doc k s f h =
     is_told kind.Obstacle 500 (λ (o : Obstacle). o.id) s.obstacles (id_attribute doc k wanted.Id) (λ id. obstacle doc k id (moves doc k)) (λ o. record s { obstacles = s.obstacles ++ o ∷ [] }) f h
 
 problem_told : (doc : Document) (k : ℕ) (s : Contents) (f : ScenarioFault)
     → IsItemRefused kind.Problem 64 (λ (p : Problem). p.id) s.problems (id_attribute doc k wanted.Id) (λ id. problem doc k id) f → problem_step doc k s ≡ Err f
-unfolding problem_step problem_id has_problem
+unfolding problem_step new_id has_id
 problem_told doc k s f h =
     is_told kind.Problem 64 (λ (p : Problem). p.id) s.problems (id_attribute doc k wanted.Id) (λ id. problem doc k id) (λ p. record s { problems = s.problems ++ p ∷ [] }) f h
 

@@ -24,53 +24,38 @@ use Rattle.scenario_xml.specs.Lanelets.{is_known, lanelet}
 use Rattle.scenario_xml.specs.Numbers.{number_in}
 use Rattle.scenario_xml.specs.Obstacles.{obstacle}
 use Rattle.scenario_xml.specs.declared.contents.Contents.{Contents}
+use Rattle.scenario_xml.specs.declared.fault.Kind.{Kind}
 use Rattle.scenario_xml.specs.declared.fault.Kind.TheVariants as kind
 use Rattle.scenario_xml.specs.declared.fault.ScenarioFault.{ScenarioFault}
 use Rattle.scenario_xml.specs.declared.fault.ScenarioFault.TheVariants.{WrongRoot, WrongVersion, DuplicateId, UnknownRef, NoProblem, TooMany}
 use Rattle.scenario_xml.specs.declared.fault.Wanted.TheVariants as wanted
 use Rattle.scenario_xml.specs.declared.quantity.Quantity.TheVariants.{Step}
 
--- an earlier element of the group has the id
-unfoldable pub has_lanelet : ℕ → List Lanelet → Bool
-has_lanelet id lanelets = list_any (λ (l : Lanelet). l.id == id) lanelets
+-- one of these has the id
+unfoldable pub has_id : {X : Type 0} → (X → ℕ) → ℕ → List X → Bool
+has_id id_of id items = list_any (λ x. id_of x == id) items
 
-unfoldable pub has_obstacle : ℕ → List Obstacle → Bool
-has_obstacle id obstacles = list_any (λ (o : Obstacle). o.id == id) obstacles
-
-unfoldable pub has_problem : ℕ → List Problem → Bool
-has_problem id problems = list_any (λ (p : Problem). p.id == id) problems
-
--- the id of one more lanelet
-unfoldable pub lanelet_id : Document → ℕ → List Lanelet → Result ℕ ScenarioFault
-lanelet_id doc k lanelets =
-    if nat_le 4000 (length lanelets) then Err (TooMany kind.Lanelet)
-    else (id_attribute doc k wanted.Id >>= λ id. if has_lanelet id lanelets then Err (DuplicateId id) else Ok id)
-
-unfoldable pub obstacle_id : Document → ℕ → List Obstacle → Result ℕ ScenarioFault
-obstacle_id doc k obstacles =
-    if nat_le 500 (length obstacles) then Err (TooMany kind.Obstacle)
-    else (id_attribute doc k wanted.Id >>= λ id. if has_obstacle id obstacles then Err (DuplicateId id) else Ok id)
-
-unfoldable pub problem_id : Document → ℕ → List Problem → Result ℕ ScenarioFault
-problem_id doc k problems =
-    if nat_le 64 (length problems) then Err (TooMany kind.Problem)
-    else (id_attribute doc k wanted.Id >>= λ id. if has_problem id problems then Err (DuplicateId id) else Ok id)
+-- the id of one more element of a kind, after these: there is room for it, it has an id, and none of these has it
+unfoldable pub new_id : {X : Type 0} → Kind → ℕ → (X → ℕ) → Document → ℕ → List X → Result ℕ ScenarioFault
+new_id what limit id_of doc k items =
+    if nat_le limit (length items) then Err (TooMany what)
+    else (id_attribute doc k wanted.Id >>= λ id. if has_id id_of id items then Err (DuplicateId id) else Ok id)
 
 unfoldable pub lanelet_step : Document → ℕ → Contents → Result Contents ScenarioFault
 lanelet_step doc k s =
-    lanelet_id doc k s.lanelets >>= λ id.
+    new_id kind.Lanelet 4000 (λ (l : Lanelet). l.id) doc k s.lanelets >>= λ id.
     lanelet doc k id s.known >>= λ l.
     Ok (record s { lanelets = s.lanelets ++ l ∷ [] })
 
 unfoldable pub obstacle_step : Document → ℕ → Bool → Contents → Result Contents ScenarioFault
 obstacle_step doc k moving s =
-    obstacle_id doc k s.obstacles >>= λ id.
+    new_id kind.Obstacle 500 (λ (o : Obstacle). o.id) doc k s.obstacles >>= λ id.
     obstacle doc k id moving >>= λ o.
     Ok (record s { obstacles = s.obstacles ++ o ∷ [] })
 
 unfoldable pub problem_step : Document → ℕ → Contents → Result Contents ScenarioFault
 problem_step doc k s =
-    problem_id doc k s.problems >>= λ id.
+    new_id kind.Problem 64 (λ (p : Problem). p.id) doc k s.problems >>= λ id.
     problem doc k id >>= λ p.
     Ok (record s { problems = s.problems ++ p ∷ [] })
 

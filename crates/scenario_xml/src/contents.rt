@@ -1,13 +1,14 @@
 ghost use Rattle.std.specs.Prelude.{⊤, ◌≡◌, ◌<◌, ◌^◌, length, IfOk, OnOk};
 ghost use Rattle.reading.specs.Reading.{Gives};
 ghost use Rattle.scenario_xml.specs.Faults.{is_memory};
-ghost use Rattle.scenario_xml.specs.Scenarios.{has_lanelet, has_obstacle, has_problem, lanelet_id, obstacle_id, problem_id, lanelet_step, obstacle_step, problem_step, content_step, known_step, known, contents};
+ghost use Rattle.scenario_xml.specs.Scenarios.{lanelet_step, obstacle_step, problem_step, content_step, known_step, known, contents};
 ghost use Rattle.scenario_xml.specs.Sound.{AreContents};
 
 use crate::children::{ChildReader, read_children};
 use crate::element::id_attribute;
 use crate::fault::{Kind, ScenarioFault, Wanted};
 use crate::goal::problem;
+use crate::identified::new_id;
 use crate::known::Known;
 use crate::lanelet::lanelet;
 use crate::obstacle::obstacle;
@@ -22,78 +23,6 @@ const MAX_LANELETS: usize = 4000;
 const MAX_OBSTACLES: usize = 500;
 
 const MAX_PROBLEMS: usize = 64;
-
-#[tactic(auto, unfolding(crate::specs::Scenarios::has_lanelet))]
-fn has_lanelet(lanelets: &[Lanelet], id: u64) -> bool
-    ensures { result ≡ has_lanelet id lanelets.now }
-{
-    lanelets.iter().any(|lanelet| lanelet.id == id)
-}
-
-#[tactic(auto, unfolding(crate::specs::Scenarios::has_obstacle))]
-fn has_obstacle(obstacles: &[Obstacle], id: u64) -> bool
-    ensures { result ≡ has_obstacle id obstacles.now }
-{
-    obstacles.iter().any(|obstacle| obstacle.id == id)
-}
-
-#[tactic(auto, unfolding(crate::specs::Scenarios::has_problem))]
-fn has_problem(problems: &[Problem], id: u64) -> bool
-    ensures { result ≡ has_problem id problems.now }
-{
-    problems.iter().any(|problem| problem.id == id)
-}
-
-/// The id of one more lanelet.
-#[tactic(auto, unfolding(crate::specs::Scenarios::lanelet_id))]
-fn lanelet_id(tree: &Tree<'_>, node: u32, lanelets: &[Lanelet]) -> Result<u64, ScenarioFault>
-    requires { node < length tree.now.nodes }
-    ensures exact { Gives is_memory (λ id. id) result (lanelet_id tree.now node lanelets.now) }
-    ensures small { IfOk result (λ id. id < 10 ^ 18) }
-{
-    if lanelets.len() >= MAX_LANELETS {
-        return Err(ScenarioFault::TooMany(Kind::Lanelet));
-    }
-    let id = id_attribute(tree, node, Wanted::Id)?;
-    if has_lanelet(lanelets, id) {
-        return Err(ScenarioFault::DuplicateId(id));
-    }
-    Ok(id)
-}
-
-/// The id of one more obstacle.
-#[tactic(auto, unfolding(crate::specs::Scenarios::obstacle_id))]
-fn obstacle_id(tree: &Tree<'_>, node: u32, obstacles: &[Obstacle]) -> Result<u64, ScenarioFault>
-    requires { node < length tree.now.nodes }
-    ensures exact { Gives is_memory (λ id. id) result (obstacle_id tree.now node obstacles.now) }
-    ensures small { IfOk result (λ id. id < 10 ^ 18) }
-{
-    if obstacles.len() >= MAX_OBSTACLES {
-        return Err(ScenarioFault::TooMany(Kind::Obstacle));
-    }
-    let id = id_attribute(tree, node, Wanted::Id)?;
-    if has_obstacle(obstacles, id) {
-        return Err(ScenarioFault::DuplicateId(id));
-    }
-    Ok(id)
-}
-
-/// The id of one more problem.
-#[tactic(auto, unfolding(crate::specs::Scenarios::problem_id))]
-fn problem_id(tree: &Tree<'_>, node: u32, problems: &[Problem]) -> Result<u64, ScenarioFault>
-    requires { node < length tree.now.nodes }
-    ensures exact { Gives is_memory (λ id. id) result (problem_id tree.now node problems.now) }
-    ensures small { IfOk result (λ id. id < 10 ^ 18) }
-{
-    if problems.len() >= MAX_PROBLEMS {
-        return Err(ScenarioFault::TooMany(Kind::Problem));
-    }
-    let id = id_attribute(tree, node, Wanted::Id)?;
-    if has_problem(problems, id) {
-        return Err(ScenarioFault::DuplicateId(id));
-    }
-    Ok(id)
-}
 
 impl ChildReader for List<u64> {
     ghost step = { known_step };
@@ -151,7 +80,13 @@ impl Contents {
         ensures exact { Gives is_memory (λ _. self.new) result (lanelet_step tree.now node self.old) }
         ensures sound { OnOk result (AreContents self.new) }
     {
-        let id = lanelet_id(tree, node, self.lanelets.as_slice())?;
+        let id = new_id(
+            tree,
+            node,
+            self.lanelets.as_slice(),
+            Kind::Lanelet,
+            MAX_LANELETS,
+        )?;
         let lanelet = lanelet(alloc, tree, node, id, &self.known)?;
         self.lanelets.push(lanelet)?;
         Ok(())
@@ -170,7 +105,13 @@ impl Contents {
         ensures exact { Gives is_memory (λ _. self.new) result (obstacle_step tree.now node moving self.old) }
         ensures sound { OnOk result (AreContents self.new) }
     {
-        let id = obstacle_id(tree, node, self.obstacles.as_slice())?;
+        let id = new_id(
+            tree,
+            node,
+            self.obstacles.as_slice(),
+            Kind::Obstacle,
+            MAX_OBSTACLES,
+        )?;
         let obstacle = obstacle(alloc, tree, node, id, moving)?;
         self.obstacles.push(obstacle)?;
         Ok(())
@@ -188,7 +129,13 @@ impl Contents {
         ensures exact { Gives is_memory (λ _. self.new) result (problem_step tree.now node self.old) }
         ensures sound { OnOk result (AreContents self.new) }
     {
-        let id = problem_id(tree, node, self.problems.as_slice())?;
+        let id = new_id(
+            tree,
+            node,
+            self.problems.as_slice(),
+            Kind::Problem,
+            MAX_PROBLEMS,
+        )?;
         let problem = problem(alloc, tree, node, id)?;
         self.problems.push(problem)?;
         Ok(())

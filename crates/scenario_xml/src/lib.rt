@@ -9,6 +9,7 @@ mod contents;
 mod element;
 mod fault;
 mod goal;
+mod identified;
 mod known;
 mod lanelet;
 mod obstacle;
