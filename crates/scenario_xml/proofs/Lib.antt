@@ -17,3 +17,5 @@ pub mod Refusals
 pub mod FaultLaw
 pub mod FaultTold
 pub mod ContentsLaws
+pub mod OwnFaults
+pub mod MarkupFaults

@@ -1,8 +1,9 @@
 -- The first fault of a document that is no scenario, in document order (CommonRoad XML 2020a).
-use Rattle.std.specs.Prelude.{◌≡◌, ◌≢◌, ℕ, ◌<◌, ◌≤◌, true, List, [], ◌∷◌, ◌++◌, length, filter, All, Any, ℤ, Result, Ok, Err}
+use Rattle.std.specs.Prelude.{◌≡◌, ◌≢◌, ℕ, ◌<◌, ◌≤◌, true, List, [], ◌∷◌, ◌++◌, length, filter, All, Any, ℤ, Result, Ok, Err, ⊤}
 use Rattle.std.specs.List.{filter_map}
 use Rattle.std.specs.Result.{result_ok}
 use Rattle.element_tree.specs.declared.fault.MarkupFault.{MarkupFault}
+use Rattle.element_tree.specs.declared.fault.MarkupFault.TheVariants as inner
 use Rattle.element_tree.specs.declared.node.Node.{Node}
 use Rattle.element_tree.specs.Document.{Document}
 use Rattle.element_tree.specs.Documents.{markup}
@@ -24,7 +25,7 @@ use Rattle.scenario_xml.specs.declared.contents.Contents.{Contents}
 use Rattle.scenario_xml.specs.declared.fault.Kind.{Kind}
 use Rattle.scenario_xml.specs.declared.fault.Kind.TheVariants as kind
 use Rattle.scenario_xml.specs.declared.fault.ScenarioFault.{ScenarioFault}
-use Rattle.scenario_xml.specs.declared.fault.ScenarioFault.TheVariants.{TooMany, DuplicateId, UnknownRef, NoProblem}
+use Rattle.scenario_xml.specs.declared.fault.ScenarioFault.TheVariants.{Markup, TooMany, DuplicateId, UnknownRef, NoProblem}
 use Rattle.scenario_xml.specs.declared.fault.Wanted.TheVariants as wanted
 
 -- the ids of all lanelets that have one
@@ -97,3 +98,8 @@ pub data IsFirstFaultIn (bytes : List ℕ) : ScenarioFault → Type 0 where
 -- no other fault is the first
 abbrev pub IsOnlyFaultIn : List ℕ → ScenarioFault → Type 0
 IsOnlyFaultIn bytes f = (g : ScenarioFault) → IsFirstFaultIn bytes g → g ≡ f
+
+-- a fault of the markup is the one that the markup has, and is never want of memory
+abbrev pub IsMarkupTold : List ℕ → ScenarioFault → Type 0
+IsMarkupTold bytes (Markup f) = (markup bytes ≡ Err f) × (f ≢ inner.NoMemory)
+IsMarkupTold bytes f = ⊤

@@ -3,7 +3,7 @@ ghost use Rattle.std.specs.Bool.{OnFalse};
 ghost use Rattle.reading.specs.Reading.{Gives};
 ghost use Rattle.scenario_model.specs.Scenario.{IsScenario};
 ghost use Rattle.scenario_xml.specs.Faults.{is_memory};
-ghost use Rattle.scenario_xml.specs.ScenarioFaults.{IsFirstFaultIn, IsOnlyFaultIn};
+ghost use Rattle.scenario_xml.specs.ScenarioFaults.{IsFirstFaultIn, IsOnlyFaultIn, IsMarkupTold};
 ghost use Rattle.scenario_xml.specs.ScenarioOf.{IsScenarioIn, IsOnlyScenarioIn, IsNoScenario};
 ghost use Rattle.scenario_xml.specs.Scenarios.{root, whole, scenario_in, document, scenario};
 ghost use Rattle.scenario_xml.specs.Sound.{AreWhole};
@@ -97,6 +97,7 @@ pub fn read_scenario(alloc: Global, bytes: &[u8]) -> Result<Scenario, ScenarioFa
     // A fault is the first one: of the markup, the root, a child of the root after all children before it, a region, the whole.
     ensures first { IfErr result (λ f. OnFalse (is_memory f) (IsFirstFaultIn bytes.now f)) }
     ensures only_fault { IfErr result (λ f. OnFalse (is_memory f) (IsOnlyFaultIn bytes.now f)) }
+    ensures markup { IfErr result (IsMarkupTold bytes.now) }
 {
     let tree = document(alloc, bytes)?;
     scenario_in(alloc, &tree)

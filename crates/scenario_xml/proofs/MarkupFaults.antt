@@ -1,0 +1,136 @@
+-- A fault of the markup is what the markup tells.
+use Rattle.std.proofs.Common.{◌≡◌, ℕ, Bool, true, false, eqb, leb, List, [], length, ℤ, Option, Some, None, Result, Ok, Err, refl, ap, ◌∙◌}
+use Rattle.std.specs.Prelude.{codes}
+use Rattle.std.specs.Bool.{OnFalse}
+use Rattle.std.specs.Result.{IfErr}
+use Rattle.std.specs.Str.{bytes_eq}
+use Rattle.element_tree.specs.Document.{Document}
+use Rattle.element_tree.specs.Documents.{markup}
+use Rattle.element_tree.specs.Trees.{name_of, children}
+use Rattle.element_tree.specs.declared.fault.MarkupFault.{MarkupFault}
+use Rattle.element_tree.specs.declared.fault.MarkupFault.TheVariants as inner
+use Rattle.element_tree.specs.declared.node.Node.{Node}
+use Rattle.reading.specs.Reading.{◌>>=◌, Gives}
+use Rattle.scenario_model.specs.declared.lanelet.Lanelet.{Lanelet}
+use Rattle.scenario_model.specs.declared.obstacle.Obstacle.{Obstacle}
+use Rattle.scenario_model.specs.declared.problem.Problem.{Problem}
+use Rattle.scenario_model.specs.declared.scenario.Scenario.{Scenario}
+use Rattle.scenario_xml.specs.Elements.{place, wanted_attribute, id_attribute}
+use Rattle.scenario_xml.specs.Faults.{is_memory, from_markup}
+use Rattle.scenario_xml.specs.Goals.{problem}
+use Rattle.scenario_xml.specs.Lanelets.{lanelet}
+use Rattle.scenario_xml.specs.Numbers.{number_in}
+use Rattle.scenario_xml.specs.Obstacles.{obstacle}
+use Rattle.scenario_xml.specs.ScenarioFaults.{IsMarkupTold}
+use Rattle.scenario_xml.specs.Scenarios.{has_id, new_id, lanelet_step, obstacle_step, problem_step, content_step, known_step, known, contents, in_version, root, first_in, unknown_in_problem, none_unknown, whole, scenario_in, shown, document, scenario}
+use Rattle.scenario_xml.specs.declared.contents.Contents.{Contents}
+use Rattle.scenario_xml.specs.declared.fault.Kind.{Kind}
+use Rattle.scenario_xml.specs.declared.fault.Kind.TheVariants as kind
+use Rattle.scenario_xml.specs.declared.fault.ScenarioFault.{ScenarioFault}
+use Rattle.scenario_xml.specs.declared.fault.ScenarioFault.TheVariants.{Markup, WrongRoot, WrongVersion, Missing, BadNumber, DuplicateId, UnknownRef, BadShape, BadBound, Unsupported, NoProblem, TooMany, NoMemory}
+use Rattle.scenario_xml.specs.declared.fault.Wanted.TheVariants as wanted
+use Rattle.scenario_xml.specs.declared.quantity.Quantity.TheVariants.{Step}
+use Rattle.scenario_xml.proofs.OwnFaults.{IsOwn, fine, chain, either, each, own_number_in, own_attribute, own_id, own_obstacle, own_lanelet, own_problem}
+
+own_new_id : {X : Type 0} (what : Kind) (limit : ℕ) (id_of : X → ℕ) (doc : Document) (k : ℕ) (items : List X) → IsOwn (new_id what limit id_of doc k items)
+unfolding new_id
+own_new_id what limit id_of doc k items =
+    either (leb limit (length items)) _ _ (record { own = λ f e. cc })
+    (chain (id_attribute doc k wanted.Id) _ (own_id doc k wanted.Id) (λ id. either (has_id id_of id items) _ _ (record { own = λ f e. cc }) (fine id)))
+
+own_lanelet_step : (doc : Document) (k : ℕ) (s : Contents) → IsOwn (lanelet_step doc k s)
+unfolding lanelet_step
+own_lanelet_step doc k s =
+    chain (new_id kind.Lanelet 4000 (λ (l : Lanelet). l.id) doc k s.lanelets) _ (own_new_id kind.Lanelet 4000 (λ (l : Lanelet). l.id) doc k s.lanelets)
+    (λ id. chain (lanelet doc k id s.known) _ (own_lanelet doc k id s.known) (λ l. fine _))
+
+own_obstacle_step : (doc : Document) (k : ℕ) (moving : Bool) (s : Contents) → IsOwn (obstacle_step doc k moving s)
+unfolding obstacle_step
+own_obstacle_step doc k moving s =
+    chain (new_id kind.Obstacle 500 (λ (o : Obstacle). o.id) doc k s.obstacles) _ (own_new_id kind.Obstacle 500 (λ (o : Obstacle). o.id) doc k s.obstacles)
+    (λ id. chain (obstacle doc k id moving) _ (own_obstacle doc k id moving) (λ o. fine _))
+
+own_problem_step : (doc : Document) (k : ℕ) (s : Contents) → IsOwn (problem_step doc k s)
+unfolding problem_step
+own_problem_step doc k s =
+    chain (new_id kind.Problem 64 (λ (p : Problem). p.id) doc k s.problems) _ (own_new_id kind.Problem 64 (λ (p : Problem). p.id) doc k s.problems)
+    (λ id. chain (problem doc k id) _ (own_problem doc k id) (λ p. fine _))
+
+own_content_step : (doc : Document) (k : ℕ) (s : Contents) → IsOwn (content_step doc k s)
+unfolding content_step
+own_content_step doc k s =
+    either (bytes_eq (name_of doc k) (codes "lanelet")) _ _ (own_lanelet_step doc k s)
+    (either (bytes_eq (name_of doc k) (codes "staticObstacle")) _ _ (own_obstacle_step doc k false s)
+    (either (bytes_eq (name_of doc k) (codes "dynamicObstacle")) _ _ (own_obstacle_step doc k true s)
+    (either (bytes_eq (name_of doc k) (codes "planningProblem")) _ _ (own_problem_step doc k s) (fine s))))
+
+own_known_step : (doc : Document) (k : ℕ) (ids : List ℕ) → IsOwn (known_step doc k ids)
+unfolding known_step
+own_known_step doc k ids = either (bytes_eq (name_of doc k) (codes "lanelet")) _ _ (fine _) (fine ids)
+
+own_contents : (doc : Document) → IsOwn (contents doc)
+unfolding contents known
+own_contents doc = chain _ _ (each (known_step doc) (children doc 0) [] (own_known_step doc)) (λ ids. each (content_step doc) (children doc 0) _ (own_content_step doc))
+
+own_version : (doc : Document) (version : List ℕ) → IsOwn (in_version doc version)
+own_version doc version =
+    either (bytes_eq version (codes "2020a")) _ _
+    (chain (wanted_attribute doc 0 wanted.TimeStepSize) (number_in (place doc 0) Step) (own_attribute doc 0 wanted.TimeStepSize) (own_number_in (place doc 0) Step))
+    (record { own = λ f e. cc })
+
+own_root : (doc : Document) → IsOwn (root doc)
+unfolding root
+own_root doc =
+    either (bytes_eq (name_of doc 0) (codes "commonRoad")) _ _
+    (chain (wanted_attribute doc 0 wanted.CommonRoadVersion) (in_version doc) (own_attribute doc 0 wanted.CommonRoadVersion) (own_version doc)) (record { own = λ f e. cc })
+
+known_or_not : (step : ℤ) (s : Contents) (o : Option ℕ) → IsOwn (none_unknown step s o)
+known_or_not step s (Some id) = record { own = λ f e. cc }
+known_or_not step s None = either (eqb (length s.problems) 0) _ _ (record { own = λ f e. cc }) (fine _)
+
+own_whole : (step : ℤ) (s : Contents) → IsOwn (whole step s)
+unfolding whole
+own_whole step s = known_or_not step s (first_in (unknown_in_problem s.known) s.problems)
+
+own_scenario : (doc : Document) → IsOwn (scenario_in doc)
+unfolding scenario_in
+own_scenario doc = chain (root doc) _ (own_root doc) (λ step. chain (contents doc) (whole step) (own_contents doc) (own_whole step))
+
+-- the fault of a document of the markup that holds this one is this one, and not want of memory
+inside : (g m : MarkupFault) → from_markup g ≡ Markup m → (g ≡ m) × (m ≡ inner.NoMemory → ⊥)
+inside (inner.Malformed at) m e = (cc, λ none. cc)
+inside (inner.Truncated at) m e = (cc, λ none. cc)
+inside (inner.TooDeep at) m e = (cc, λ none. cc)
+inside (inner.TooMany at) m e = (cc, λ none. cc)
+inside (inner.Unsupported at) m e = (cc, λ none. cc)
+inside inner.NoMemory m e = absurd cc
+
+by_markup : (bytes : List ℕ) (m : MarkupFault) (r : Result (List Node) MarkupFault) → markup bytes ≡ r → (shown bytes r >>= scenario_in) ≡ Err (Markup m) → IsMarkupTold bytes (Markup m)
+by_markup bytes m (Ok nodes) h e = absurd ((own_scenario (record { source = bytes; nodes = nodes })).own m e)
+by_markup bytes m (Err g) h e =
+    let same : from_markup g ≡ Markup m = cc in
+    let k = inside g m same in
+    (h ∙ ap (λ (x : MarkupFault). Err x) k.0, k.1)
+
+in_markup : (bytes : List ℕ) (m : MarkupFault) → scenario bytes ≡ Err (Markup m) → IsMarkupTold bytes (Markup m)
+unfolding scenario document
+in_markup bytes m e = by_markup bytes m (markup bytes) refl e
+
+by_fault : (bytes : List ℕ) (f : ScenarioFault) → OnFalse (is_memory f) (scenario bytes ≡ Err f) → IsMarkupTold bytes f
+by_fault bytes (Markup m) h = in_markup bytes m h
+by_fault bytes WrongRoot h = tt
+by_fault bytes WrongVersion h = tt
+by_fault bytes (Missing what at) h = tt
+by_fault bytes (BadNumber at) h = tt
+by_fault bytes (DuplicateId id) h = tt
+by_fault bytes (UnknownRef id) h = tt
+by_fault bytes (BadShape id) h = tt
+by_fault bytes (BadBound id) h = tt
+by_fault bytes (Unsupported at) h = tt
+by_fault bytes NoProblem h = tt
+by_fault bytes (TooMany what) h = tt
+by_fault bytes NoMemory h = tt
+
+pub markup_told : (bytes : List ℕ) (r : Result Scenario ScenarioFault) → Gives is_memory (λ (s : Scenario). s) r (scenario bytes) → IfErr r (IsMarkupTold bytes)
+markup_told bytes (Ok s) h = tt
+markup_told bytes (Err f) h = by_fault bytes f h
