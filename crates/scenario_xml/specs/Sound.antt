@@ -1,4 +1,4 @@
--- Goals and problems that are well formed but for their references: they are well formed among those lanelets of which none that they refer to is missing.
+-- What was read is well formed; goals and problems but for their references: they are well formed among those lanelets of which none that they refer to is missing.
 use Rattle.std.specs.Prelude.{◌≡◌, ℕ, ◌≤◌, List, length, map, All, None}
 use Rattle.scenario_model.specs.Scenario.{HaveDifferentIds, IsLanelet, IsObstacle, IsRegion, IsGoal, IsProblem}
 use Rattle.scenario_model.specs.declared.lanelet.Lanelet.{Lanelet}

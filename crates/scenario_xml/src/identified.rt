@@ -8,7 +8,7 @@ use crate::fault::{Kind, ScenarioFault, Wanted};
 use element_tree::Tree;
 use scenario_model::{Lanelet, Obstacle, Problem};
 
-/// What has an id, which no other of its kind has.
+/// What has an id.
 pub trait Identified {
     ghost id_of: { Self → ℕ };
 
