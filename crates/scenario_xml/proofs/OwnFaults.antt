@@ -1,5 +1,5 @@
 -- Nothing that is read off the elements of a document has a fault of the markup.
-use Rattle.std.proofs.Common.{◌≡◌, ℕ, Bool, true, false, cond, ◌&&◌, not, eqb, leb, ltb, List, [], ◌∷◌, length, ℤ, pos, Option, Some, None, Result, Ok, Err, ap}
+use Rattle.std.proofs.Common.{◌≡◌, ℕ, Bool, true, false, cond, ◌&&◌, not, eqb, leb, ltb, List, [], ◌∷◌, length, ℤ, pos, Option, Some, None, Result, Ok, Err, refl, ap}
 use Rattle.std.specs.Prelude.{codes}
 use Rattle.std.specs.Str.{bytes_eq}
 use Rattle.element_tree.specs.Document.{Document}
@@ -36,6 +36,7 @@ use Rattle.scenario_xml.specs.declared.quantity.Quantity.{Quantity}
 use Rattle.scenario_xml.specs.declared.quantity.Quantity.TheVariants as quantity
 use Rattle.scenario_xml.specs.declared.region.RegionsSoFar.{RegionsSoFar}
 use Rattle.scenario_xml.specs.declared.shape.ShapesSoFar.{ShapesSoFar}
+use Rattle.scenario_xml.proofs.Refusals.{same_fault}
 
 -- no fault of the markup
 pub record IsOwn {X : Type 0} (r : Result X ScenarioFault) : Type 0 where
@@ -44,12 +45,9 @@ pub record IsOwn {X : Type 0} (r : Result X ScenarioFault) : Type 0 where
 pub fine : {X : Type 0} (x : X) → IsOwn (Ok x)
 fine x = record { own = λ f e. cc }
 
-same_fault : {A : Type 0} (e g : ScenarioFault) → ◌≡◌ {A = Result A ScenarioFault} (Err e) (Err g) → e ≡ g
-same_fault e g h = cc
-
 pub chain : {A B : Type 0} (r : Result A ScenarioFault) (f : A → Result B ScenarioFault) → IsOwn r → ((x : A) → IsOwn (f x)) → IsOwn (r >>= f)
 chain (Ok x) f h k = k x
-chain (Err e) f h k = record { own = λ g same. h.own g (ap (λ (d : ScenarioFault). Err d) (same_fault e (Markup g) same)) }
+chain {B = B} (Err e) f h k = record { own = λ g same. h.own g (ap (λ (d : ScenarioFault). Err d) (same_fault {A = B} (Err e) e (Markup g) refl same)) }
 
 pub either : {X : Type 0} (b : Bool) (x y : Result X ScenarioFault) → IsOwn x → IsOwn y → IsOwn (cond b x y)
 either true x y h k = h

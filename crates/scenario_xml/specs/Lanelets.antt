@@ -28,8 +28,8 @@ is_known ids id = list_any (λ known. id == known) ids
 unfoldable pub bound : Document → ℕ → ℕ → Wanted → Result (List Point) ScenarioFault
 bound doc k id what =
     wanted_child doc k what >>= λ b.
-    points doc b >>= λ ps.
-    if nat_le 2 (length ps) && nat_le (length ps) 2048 then Ok ps else Err (BadBound id)
+    points doc b >>= λ all.
+    if nat_le 2 (length all) && nat_le (length all) 2048 then Ok all else Err (BadBound id)
 
 -- the name of the elements that refer to the lanelets on a side
 abbrev pub way_word : Way → List ℕ

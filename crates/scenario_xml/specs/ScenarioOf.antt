@@ -64,10 +64,10 @@ pub record AreItems {X : Type 0} (IsItemAt : ℕ → X → Type 0) (id_of : X �
   pub different : HaveDifferentIds id_of items
 
 -- These lanelets, obstacles and problems are those among some children of the root, where these are the ids of all lanelets.
-pub record AreReadOff (doc : Document) (ids nodes : List ℕ) (ls : List Lanelet) (os : List Obstacle) (ps : List Problem) : Type 0 where
-  pub lanelets : AreItems (IsLaneletAt doc ids) (λ (l : Lanelet). l.id) 4000 (filter (is_lanelet doc) nodes) ls
-  pub obstacles : AreItems (IsObstacleAt doc) (λ (o : Obstacle). o.id) 500 (filter (is_obstacle doc) nodes) os
-  pub problems : AreItems (IsProblemAt doc) (λ (p : Problem). p.id) 64 (filter (is_problem doc) nodes) ps
+pub record AreReadOff (doc : Document) (ids nodes : List ℕ) (some_lanelets : List Lanelet) (some_obstacles : List Obstacle) (some_problems : List Problem) : Type 0 where
+  pub lanelets : AreItems (IsLaneletAt doc ids) (λ (l : Lanelet). l.id) 4000 (filter (is_lanelet doc) nodes) some_lanelets
+  pub obstacles : AreItems (IsObstacleAt doc) (λ (o : Obstacle). o.id) 500 (filter (is_obstacle doc) nodes) some_obstacles
+  pub problems : AreItems (IsProblemAt doc) (λ (p : Problem). p.id) 64 (filter (is_problem doc) nodes) some_problems
 
 -- all goals of some problems, and all their regions, in their order
 abbrev pub goals_of : List Problem → List Goal

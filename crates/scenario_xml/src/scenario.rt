@@ -13,7 +13,7 @@ use crate::element::wanted_attribute;
 use crate::fault::{ScenarioFault, Wanted};
 use crate::quantity::{Quantity, number_in};
 use crate::unknown::first_unknown;
-use element_tree::{MarkupFault, Tree, read_tree};
+use element_tree::{Tree, read_tree};
 use scenario_model::{Scenario, Version};
 use std::alloc::Global;
 
@@ -76,11 +76,7 @@ fn scenario_in(alloc: Global, tree: &Tree<'_>) -> Result<Scenario, ScenarioFault
 fn document<'a>(alloc: Global, bytes: &'a [u8]) -> Result<Tree<'a>, ScenarioFault>
     ensures { Gives is_memory (λ t. t) result (document bytes.now) }
 {
-    match read_tree(alloc, bytes) {
-        Ok(tree) => Ok(tree),
-        Err(MarkupFault::NoMemory) => Err(ScenarioFault::NoMemory),
-        Err(fault) => Err(ScenarioFault::Markup(fault)),
-    }
+    Ok(read_tree(alloc, bytes)?)
 }
 
 /// The scenario of a document's bytes, or its first fault.
