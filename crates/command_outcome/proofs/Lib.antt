@@ -1,3 +1,5 @@
 pub mod Options
+pub mod HavingInputs
 pub mod Serving
-pub mod Ending
+pub mod CallEnds
+pub mod DueOutcomes

@@ -1,66 +1,71 @@
--- How the parts of a command join into its answer.
-use Rattle.std.proofs.Common.{◌≡◌, ℕ, List, [], ◌∷◌, ◌++◌, Option, Result, Ok, Err, IfSome, refl, sym, ◌∙◌, ap, subst, arith}
-use Rattle.outside_io.specs.Outside.{Files}
-use Rattle.command_outcome.specs.declared.outcome.Role.{Role}
+-- What is due to a command that has its inputs, or can't have them.
+use Rattle.std.proofs.Common.{◌≡◌, ℕ, List, Option, Some, Result, Ok, Err, IfSome, refl, sym, ◌∙◌, subst, arith}
+use Rattle.std.specs.FinMap.{insert}
+use Rattle.outside_io.specs.Outside.{Files, SavesPart}
+use Rattle.command_outcome.specs.declared.outcome.Ending.{Ending}
 use Rattle.command_outcome.specs.declared.outcome.Status.{Status}
 use Rattle.command_outcome.specs.declared.outcome.Status.TheVariants as status
 use Rattle.command_outcome.specs.declared.outcome.Stop.{Stop}
 use Rattle.command_outcome.specs.declared.outcome.Stop.TheVariants as stop
-use Rattle.command_outcome.specs.Outcome.{Outcome, Halt, refusal, ◌>>=◌, Settles, file_as}
-use Rattle.command_outcome.specs.Ends.{Shelf, Stands, LoadFailed, Loads, Settled, Serves}
-use Rattle.command_outcome.proofs.Options.{map_some, join_some, each_some}
+use Rattle.command_outcome.specs.Outcome.{Outcome, EndsAs, status_of}
+use Rattle.command_outcome.specs.Inputs.{Halt, refusal, gives}
+use Rattle.command_outcome.specs.Tasks.{Task, Settles, IsDueTo}
+use Rattle.command_outcome.specs.Ends.{Shelf, LoadingStops, Has, Saved, SavingStops, Settled, Stops}
+use Rattle.command_outcome.proofs.Options.{map_some, join_some}
+use Rattle.command_outcome.proofs.HavingInputs.{along}
 
--- one step after the other
-pub along : (old mid new : Shelf) → Stands old mid → Stands mid new → Stands old new
-along old mid new a b = record { held = b.held ∙ a.held; later = omega (arith, a.later, b.later); failed = b.failed ∙ a.failed }
+abbrev pub outcome : Status → List ℕ → Files → Outcome
+outcome status text files = record { status = status; text = text; files = files }
 
-pub failed_after : (old mid new : Shelf) (name : List ℕ) → Stands old mid → LoadFailed mid new name → LoadFailed old new name
-failed_after old mid new name a b = record {
-  held = b.held ∙ a.held;
-  rose = omega (arith, a.later, b.rose);
-  failed = b.failed ∙ ap (λ (l : List (List ℕ)). l ++ name ∷ []) a.failed;
-}
+module _ (task : Task) where
+  due_at : (files : Files) (r : Result task.Input Halt) (o : Outcome) → gives task.inputs files ≡ r → Settles r (task.Makes files) files o → IsDueTo task files o
+  due_at files r o is h = subst (λ (q : Result task.Input Halt). Settles q (task.Makes files) files o) (sym is) h
 
--- The inputs are read up to here: what is left to read gives what all of them give.
-pub record Reads {A : Type 0} (inputs rest : Files → Result A Halt) (old mid : Shelf) : Type 0 where
-  pub stands : Stands old mid
-  pub left : IfSome old.held (λ files. inputs files ≡ rest files)
+  -- the inputs can't be had
+  pub stops : (old new : Shelf) (end : Stop) → LoadingStops task.inputs old new end → Stops task old new end
+  stops old new stop.NoMemory h = h
+  stops old new (stop.Unread role) h = h
+  stops old new (stop.Ended e text) h = subst (λ q. Settled task old new (status_of q) text.items) (sym h.0) (record {
+    later = h.1.later;
+    failed = h.1.failed;
+    due = map_some old.held (λ files told is. (files, h.1.held ∙ told, due_at files (Err (refusal text.items)) (outcome status.Refused text.items files) is refl)) h.2;
+  })
+  stops old new stop.Unsaved h = absurd h
 
--- for a command whose due outcome settles its inputs
-module _ {A : Type 0} (Due : Files → Outcome → Type 0) (Reaches : Option Files → Role → List ℕ → Type 0) (inputs : Files → Result A Halt) (Makes : Files → A → Outcome → Type 0)
-    (settles : (files : Files) (o : Outcome) → Settles (inputs files) (Makes files) files o → Due files o) where
-  due_at : (files : Files) (r : Result A Halt) (o : Outcome) → inputs files ≡ r → Settles r (Makes files) files o → Due files o
-  due_at files r o is h = settles files o (subst (λ (q : Result A Halt). Settles q (Makes files) files o) (sym is) h)
+  module _ (old mid : Shelf) (x : task.Input) (had : Has task.inputs old mid x) where
+    -- the work is done, or ends otherwise, and the files stay
+    pub made : (s : Status) (text : List ℕ) → ((files : Files) → task.Makes files x (outcome s text files)) → Settled task old mid s text
+    made s text makes = record {
+      later = had.stands.later;
+      failed = had.stands.failed;
+      due = map_some old.held (λ files told is. (files, had.stands.held ∙ told, due_at files (Ok x) (outcome s text files) is (makes files))) had.gives;
+    }
 
-  pub reads_none : (old : Shelf) → Reads inputs inputs old old
-  reads_none old = record { stands = record { held = refl; later = omega arith; failed = refl }; left = each_some old.held (λ files. inputs files ≡ inputs files) (λ files told. refl) }
+    pub ends : (e : Ending) (text : List ℕ) (end : Stop) → EndsAs e text end → ((files : Files) → task.Makes files x (outcome (status_of e) text files)) → Stops task old mid end
+    ends e text stop.NoMemory h makes = had.stands
+    ends e text (stop.Unread role) h makes = absurd h
+    ends e text (stop.Ended f written) h makes = subst (λ q. Settled task old mid (status_of q) written.items) (sym h.0) (subst (λ t. Settled task old mid (status_of e) t) (sym h.1) (made (status_of e) text makes))
+    ends e text stop.Unsaved h makes = absurd h
 
-  module _ {B : Type 0} (role : Role) (read : List ℕ → Result B (List ℕ)) (name : List ℕ) (next : Files → B → Result A Halt) (old mid new : Shelf)
-      (so_far : Reads inputs (λ files. file_as role read files name >>= next files) old mid) where
-    gives : (r : Result B Halt) → IfSome mid.held (λ files. file_as role read files name ≡ r) → IfSome old.held (λ files. inputs files ≡ (r >>= next files))
-    gives r h = join_some old.held (λ files told left e. left ∙ ap (λ q. q >>= next files) e) so_far.left
-        (subst (λ (held : Option Files). IfSome held (λ files. file_as role read files name ≡ r)) so_far.stands.held h)
+    module _ (name bytes text : List ℕ) (makes : (files : Files) → task.Makes files x (outcome status.Done text (insert files name bytes))) (new : Shelf) where
+      -- what is made is saved
+      pub saved : Saved name bytes mid new → Settled task old new status.Done text
+      saved h = record {
+        later = omega (arith, had.stands.later, h.later);
+        failed = h.failed ∙ had.stands.failed;
+        due = join_some old.held (λ files told is after. (insert files name bytes, after, due_at files (Ok x) (outcome status.Done text (insert files name bytes)) is (makes files))) had.gives
+            (subst (λ (held : Option Files). IfSome held (λ files. new.held ≡ Some (insert files name bytes))) had.stands.held h.held);
+      }
 
-    -- one input more
-    pub reads_more : (y : B) → Loads (λ (b : B). b) role read name mid new (Ok y) → Reads inputs (λ files. next files y) old new
-    reads_more y h = record { stands = along old mid new so_far.stands h.0; left = gives (Ok y) h.1 }
-
-    -- an input that can't be had
-    pub reading_stops : (e : Stop) → Reaches old.held role name → Loads (λ (b : B). b) role read name mid new (Err e) → Serves Due Reaches old new (Err e)
-    reading_stops stop.NoMemory reached h = h ∙ so_far.stands.held
-    reading_stops (stop.Unread r) reached h = record { name = name; reached = subst (λ q. Reaches old.held q name) (sym h.1) reached; load = failed_after old mid new name so_far.stands h.0 }
-    reading_stops (stop.Refused text) reached h =
-        let stands = along old mid new so_far.stands h.0 in
-        record {
-          later = stands.later;
-          failed = stands.failed;
-          due = map_some old.held (λ files told e. (files, stands.held ∙ told, due_at files (Err (refusal text.items)) (record { status = status.Refused; text = text.items; files = files }) e refl)) (gives (Err (refusal text.items)) h.1);
-        }
-
-  -- all inputs are read, and the files stay
-  pub made : (x : A) (old new : Shelf) (s : Status) (text : List ℕ) → Reads inputs (λ _. Ok x) old new → ((files : Files) → Makes files x (record { status = s; text = text; files = files })) → Settled Due old new s text
-  made x old new s text reads makes = record {
-    later = reads.stands.later;
-    failed = reads.stands.failed;
-    due = map_some old.held (λ files told e. (files, reads.stands.held ∙ told, due_at files (Ok x) (record { status = s; text = text; files = files }) e (makes files))) reads.left;
-  }
+      pub saving_stops : (end : Stop) → task.saves ≡ Some name → SavingStops name bytes mid new end → Stops task old new end
+      saving_stops stop.NoMemory named h = along old mid new had.stands h
+      saving_stops (stop.Unread role) named h = absurd h
+      saving_stops (stop.Ended e written) named h = absurd h
+      saving_stops stop.Unsaved named h = record {
+        name = name;
+        saves = named;
+        rose = omega (arith, had.stands.later, h.rose);
+        failed = h.failed ∙ had.stands.failed;
+        due = join_some old.held (λ files told is part. (text, bytes, due_at files (Ok x) (outcome status.Done text (insert files name bytes)) is (makes files), part)) had.gives
+            (subst (λ (held : Option Files). IfSome held (λ files. SavesPart files new.held name bytes)) had.stands.held h.held);
+      }

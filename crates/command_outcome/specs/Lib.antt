@@ -1,2 +1,4 @@
 pub mod Outcome
+pub mod Inputs
+pub mod Tasks
 pub mod Ends

@@ -1,7 +1,7 @@
-//! How a command ends: statuses, roles, the texts of refusals, and what a call leaves in its store and its sink.
+//! What a command reads, as a chain of files and tests, what is due to it, and what a call leaves in its store and its sink.
 //!
-//! The layer above uses the lemmas of `proofs/Serving.antt` and `proofs/Ending.antt`, which turn what a command comes to and what was delivered into the clauses of the one call that the program makes.
-//! The definitions stand in `specs/Outcome.antt` and `specs/Ends.antt`. No command is named here.
+//! The layer above uses the calls' contracts, and the lemmas of `proofs/HavingInputs.antt`, `proofs/Serving.antt` and `proofs/CallEnds.antt`, which turn what was read, made and delivered into the clauses of the one call that the program makes.
+//! The definitions stand in `specs/Inputs.antt`, `specs/Tasks.antt`, `specs/Outcome.antt` and `specs/Ends.antt`. No command is named here.
 #![tactic(auto)]
 
 mod delivery;
@@ -10,6 +10,6 @@ mod outcome;
 #[cfg(test)]
 mod tests;
 
-pub use delivery::{Reply, deliver, said};
-pub use loading::load_bytes;
-pub use outcome::{Role, Status, Stop, refuse, refuse_at, refused};
+pub use delivery::{Reply, deliver};
+pub use loading::{load_bytes, save_bytes};
+pub use outcome::{Ending, Role, Status, Stop, end_as, refuse, refuse_at};

@@ -1,8 +1,7 @@
-ghost use Rattle.std.specs.Prelude.{◌≡◌};
-ghost use Rattle.command_outcome.specs.Ends.{LoadsBytes, shelf};
+ghost use Rattle.command_outcome.specs.Ends.{LoadsBytes, Saves, shelf};
 
-use crate::outcome::{Role, Stop, refused};
-use outside_io::{LoadFault, Store};
+use crate::outcome::{Role, Stop, refuse};
+use outside_io::{LoadFault, SaveFault, Store};
 use std::alloc::Global;
 
 /// The bytes of the file in this role. A file that is too long is refused.
@@ -18,6 +17,17 @@ pub fn load_bytes<S: Store>(
         Ok(bytes) => Ok(bytes),
         Err(LoadFault::NoMemory) => Err(Stop::NoMemory),
         Err(LoadFault::Failed) => Err(Stop::Unread(role)),
-        Err(LoadFault::TooLong) => Err(Stop::Refused(refused(alloc, role, "too-long")?)),
+        Err(LoadFault::TooLong) => Err(refuse(alloc, role, "too-long")),
+    }
+}
+
+/// Saves the bytes under the name.
+pub fn save_bytes<S: Store>(store: &mut S, name: &str, bytes: &[u8]) -> Result<(), Stop>
+    ensures { Saves name.now bytes.now (shelf S.held S.faults S.failed store.old) (shelf S.held S.faults S.failed store.new) result }
+{
+    match store.save(name, bytes) {
+        Ok(()) => Ok(()),
+        Err(SaveFault::NoMemory) => Err(Stop::NoMemory),
+        Err(SaveFault::Failed) => Err(Stop::Unsaved),
     }
 }

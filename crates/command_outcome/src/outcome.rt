@@ -1,5 +1,6 @@
-ghost use Rattle.std.specs.Prelude.{◌≡◌, IfOk};
-ghost use Rattle.command_outcome.specs.Outcome.{refused_text, role_text, unread_text, fault_at, Refuses};
+ghost use Rattle.std.specs.Prelude.{◌≡◌, Some};
+ghost use Rattle.command_outcome.specs.declared.outcome.Stop.TheVariants as stop;
+ghost use Rattle.command_outcome.specs.Outcome.{EndsAs, Refuses, fault_at, role_text, status_of};
 
 use preorder::NoMemory;
 use std::alloc::{AllocError, AllocFailed, Global};
@@ -15,10 +16,14 @@ pub enum Status {
     Usage,
     /// An input file couldn't be read, and the text says which.
     ReadFault,
-    /// The text couldn't be written whole.
+    /// What was to be saved couldn't be saved, or the text couldn't be written whole.
     WriteFault,
-    /// Memory ran out; nothing was written.
+    /// Memory ran out; nothing was saved or written.
     NoMemory,
+    /// A certificate fails a condition, and the text says which.
+    Rejected,
+    /// There are more undominated labels than are searched.
+    TooManyLabels,
 }
 
 /// What an input file is to a command.
@@ -29,21 +34,28 @@ pub enum Role {
     Scenario,
 }
 
+/// What is due to a command whose work can't be done.
+#[derive(Clone, Copy, Debug, PartialEq, Eq)]
+pub enum Ending {
+    Refused,
+    Rejected,
+    TooManyLabels,
+}
+
 /// Why a command ends before its work is done.
 #[derive(Drop)]
 pub enum Stop {
     NoMemory,
     /// The file in this role couldn't be read.
     Unread(Role),
-    /// An input is refused, with this whole text.
-    Refused(Vec<u8>),
+    /// Another outcome is due, with this whole text.
+    Ended(Ending, Vec<u8>),
+    /// What was to be saved couldn't be saved.
+    Unsaved,
 }
 
 impl From<AllocError> for Stop {
-    ghost use Rattle.std.specs.Prelude.{◌≡◌};
-    ghost use Rattle.command_outcome.specs.declared.outcome.Stop.TheVariants.{NoMemory};
-
-    ghost from_gives = { λ _ stop. stop ≡ NoMemory };
+    ghost from_gives = { λ _ end. end ≡ stop.NoMemory };
 
     fn from(_error: AllocError) -> Stop {
         Stop::NoMemory
@@ -51,10 +63,7 @@ impl From<AllocError> for Stop {
 }
 
 impl<T: Drop> From<AllocFailed<T>> for Stop {
-    ghost use Rattle.std.specs.Prelude.{◌≡◌};
-    ghost use Rattle.command_outcome.specs.declared.outcome.Stop.TheVariants.{NoMemory};
-
-    ghost from_gives = { λ _ stop. stop ≡ NoMemory };
+    ghost from_gives = { λ _ end. end ≡ stop.NoMemory };
 
     fn from(_error: AllocFailed<T>) -> Stop {
         Stop::NoMemory
@@ -62,13 +71,23 @@ impl<T: Drop> From<AllocFailed<T>> for Stop {
 }
 
 impl From<NoMemory> for Stop {
-    ghost use Rattle.std.specs.Prelude.{◌≡◌};
-    ghost use Rattle.command_outcome.specs.declared.outcome.Stop.TheVariants as stop;
-
-    ghost from_gives = { λ _ e. e ≡ stop.NoMemory };
+    ghost from_gives = { λ _ end. end ≡ stop.NoMemory };
 
     fn from(_error: NoMemory) -> Stop {
         Stop::NoMemory
+    }
+}
+
+impl Ending {
+    /// The status of a call that ends so.
+    pub fn status(self) -> Status
+        ensures { result ≡ status_of self }
+    {
+        match self {
+            Ending::Refused => Status::Refused,
+            Ending::Rejected => Status::Rejected,
+            Ending::TooManyLabels => Status::TooManyLabels,
+        }
     }
 }
 
@@ -83,41 +102,32 @@ impl Role {
             Role::Scenario => "scenario",
         }
     }
-
-    /// The line that says that the file in this role couldn't be read.
-    pub fn unread(self) -> &'static str
-        ensures { result.now ≡ unread_text self }
-    {
-        match self {
-            Role::Book => "cannot read book\n",
-            Role::Table => "cannot read table\n",
-            Role::Scenario => "cannot read scenario\n",
-        }
-    }
 }
 
-/// The line that says that the file in this role is refused.
-pub fn refused(alloc: Global, role: Role, fault: &str) -> Result<Vec<u8>, AllocError>
-    ensures { IfOk result (λ text. text.items ≡ refused_text role fault.now) }
+/// The end with this whole text, or want of memory.
+pub fn end_as(alloc: Global, ending: Ending, text: &str) -> Stop
+    ensures { EndsAs ending text.now result }
 {
-    let name = role.text();
-    let text = format!(in alloc; "refused {name} {fault}\n")?;
-    Ok(text.into_bytes())
+    match text.as_bytes().to_vec(alloc) {
+        Ok(text) => Stop::Ended(ending, text),
+        Err(AllocError) => Stop::NoMemory,
+    }
 }
 
 /// The refusal of the file in this role, or want of memory.
 pub fn refuse(alloc: Global, role: Role, fault: &str) -> Stop
-    ensures { Refuses role fault.now result }
+    ensures { Refuses role (Some fault.now) result }
 {
-    match refused(alloc, role, fault) {
-        Ok(text) => Stop::Refused(text),
+    let name = role.text();
+    match format!(in alloc; "refused {name} {fault}\n") {
+        Ok(text) => Stop::Ended(Ending::Refused, text.into_bytes()),
         Err(AllocError) => Stop::NoMemory,
     }
 }
 
 /// The refusal by a fault that has a number, as that of a line; or want of memory.
 pub fn refuse_at(alloc: Global, role: Role, fault: &str, number: usize) -> Stop
-    ensures { Refuses role (fault_at fault.now number) result }
+    ensures { Refuses role (Some (fault_at fault.now number)) result }
 {
     match format!(in alloc; "{fault} {number}") {
         Ok(fault) => refuse(alloc, role, fault.as_str()),

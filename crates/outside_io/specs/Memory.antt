@@ -2,18 +2,22 @@
 use Rattle.std.specs.Prelude.{ℕ, ◌+◌, ◌-◌, ◌^◌, ◌==◌, ◌||◌, Bool, false, nat_lt, if◌then◌else◌, min, List, [], ◌∷◌, ◌++◌, length, take, map, Option, None, Some, Result, Err, Vec, refl, is_none}
 use Rattle.outside_io.specs.declared.LoadFault.{LoadFault}
 use Rattle.outside_io.specs.declared.LoadFault.TheVariants as load
+use Rattle.outside_io.specs.declared.SaveFault.{SaveFault}
+use Rattle.outside_io.specs.declared.SaveFault.TheVariants as save
 use Rattle.std.specs.declared.alloc.Global.{Global}
 use Rattle.std.specs.Coded.{Coded, code_by, coded×, coded_ℕ, coded_list, coded_option}
 use Rattle.std.specs.FinMap as finite
 use Rattle.outside_io.specs.Outside.{Files}
 
--- a store in memory: its files, its faults, the names whose load failed, how many loads there were, and which one is to fail
+-- A store in memory: its files, its faults, the names whose load failed, how many loads and saves there were, which load is to fail, and which save after how many bytes.
 pub record Memory : Type 0 where
   pub files : Files
   pub faults : ℕ
   pub failed : List (List ℕ)
   pub loads : ℕ
   pub load_to_fail : Option ℕ
+  pub saves : ℕ
+  pub save_to_fail : Option (ℕ × ℕ)
 
 abbrev pub coded_files : Coded Files
 coded_files = finite.code (coded_list coded_ℕ) (coded_list coded_ℕ)
@@ -21,10 +25,10 @@ coded_files = finite.code (coded_list coded_ℕ) (coded_list coded_ℕ)
 abbrev pub coded_memory : Coded Memory
 coded_memory =
     code_by
-    (Files × (ℕ × (List (List ℕ) × (ℕ × Option ℕ))))
-    (coded× coded_files (coded× coded_ℕ (coded× (coded_list (coded_list coded_ℕ)) (coded× coded_ℕ (coded_option coded_ℕ)))))
-    (λ m. (m.files, (m.faults, (m.failed, (m.loads, m.load_to_fail)))))
-    (λ p. record { files = p.0; faults = p.1.0; failed = p.1.1.0; loads = p.1.1.1.0; load_to_fail = p.1.1.1.1 })
+    (Files × (ℕ × (List (List ℕ) × (ℕ × (Option ℕ × (ℕ × Option (ℕ × ℕ)))))))
+    (coded× coded_files (coded× coded_ℕ (coded× (coded_list (coded_list coded_ℕ)) (coded× coded_ℕ (coded× (coded_option coded_ℕ) (coded× coded_ℕ (coded_option (coded× coded_ℕ coded_ℕ))))))))
+    (λ m. (m.files, (m.faults, (m.failed, (m.loads, (m.load_to_fail, (m.saves, m.save_to_fail)))))))
+    (λ p. record { files = p.0; faults = p.1.0; failed = p.1.1.0; loads = p.1.1.1.0; load_to_fail = p.1.1.1.1.0; saves = p.1.1.1.1.1.0; save_to_fail = p.1.1.1.1.1.1 })
     (λ _. refl)
 
 -- names and bytes without where they lie in memory
@@ -65,6 +69,19 @@ is_named_part (Some p) number = p.0 == number
 abbrev pub part_kept : Option (ℕ × ℕ) → ℕ → ℕ → ℕ
 part_kept None number len = len
 part_kept (Some p) number len = if p.0 == number then min p.1 len else len
+
+-- whether the next save fails
+abbrev pub save_fails : Memory → Bool
+save_fails m = is_named_part m.save_to_fail (next m.saves)
+
+-- the store after a save with this answer
+abbrev pub after_save : {T : Type 0} → Memory → List ℕ → List ℕ → Result T SaveFault → Memory
+after_save m name bytes (Err save.NoMemory) = record m { saves = next m.saves }
+after_save m name bytes answer = record m {
+  files = finite.insert m.files name (take (part_kept m.save_to_fail (next m.saves) (length bytes)) bytes);
+  saves = next m.saves;
+  faults = if save_fails m then next m.faults else m.faults;
+}
 
 -- a sink in memory: what was written, its room and faults, how many writes there were, and which one is to fail after how many bytes
 pub record Paper : Type 0 where

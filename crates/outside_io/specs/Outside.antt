@@ -1,13 +1,15 @@
 -- What a store and a sink tell, and what their calls answer. All of it is this project's own.
-use Rattle.std.specs.Prelude.{◌≡◌, ℕ, ◌+◌, ◌-◌, ◌^◌, ◌<◌, ◌≤◌, min, List, [], ◌∷◌, ◌++◌, length, take, Option, None, Some, Result, Ok, Err, Vec, ⊤, IsErrOf, IsSomeAnd}
+use Rattle.std.specs.Prelude.{◌≡◌, ◌⊎◌, ℕ, ◌+◌, ◌-◌, ◌^◌, ◌<◌, ◌≤◌, min, List, [], ◌∷◌, ◌++◌, length, take, Option, None, Some, Result, Ok, Err, Vec, ⊤, IsErrOf, IsSomeAnd}
 use Rattle.std.specs.declared.alloc.Global.{Global}
 use Rattle.std.specs.Ordering.{nat_cmp}
 use Rattle.std.specs.Cmp.Lexicographic.{slice_cmp}
-use Rattle.std.specs.FinMap.{FinMap, get}
+use Rattle.std.specs.FinMap.{FinMap, get, insert}
 use Rattle.std.specs.Io.KnownBytes.{Appends}
 use Rattle.outside_io.specs.declared.TheConstants.{MAX_FILE}
 use Rattle.outside_io.specs.declared.LoadFault.{LoadFault}
 use Rattle.outside_io.specs.declared.LoadFault.TheVariants as load
+use Rattle.outside_io.specs.declared.SaveFault.{SaveFault}
+use Rattle.outside_io.specs.declared.SaveFault.TheVariants as save
 use Rattle.outside_io.specs.declared.SinkFault.{SinkFault}
 
 -- the files of a store: the bytes under each name
@@ -37,6 +39,17 @@ RecordsFailure old new name (Err load.Failed) = new ≡ old ++ name ∷ []
 RecordsFailure old new name (Err load.TooLong) = new ≡ old
 RecordsFailure old new name (Err load.NoMemory) = new ≡ old
 RecordsFailure old new name (Ok bytes) = new ≡ old
+
+-- the name holds a front of the bytes, or all is as it was
+abbrev pub SavesPart : Files → Option Files → List ℕ → List ℕ → Type 0
+SavesPart files after name bytes = (after ≡ Some files) ⊎ ((kept : ℕ) × (after ≡ Some (insert files name (take kept bytes))))
+
+-- what a save leaves of the files, where the store tells them
+abbrev pub SaveAnswers : {T : Type 0} → Option Files → Option Files → List ℕ → List ℕ → Result T SaveFault → Type 0
+SaveAnswers None after name bytes answer = after ≡ None
+SaveAnswers (Some files) after name bytes (Ok _) = after ≡ Some (insert files name bytes)
+SaveAnswers (Some files) after name bytes (Err save.Failed) = SavesPart files after name bytes
+SaveAnswers (Some files) after name bytes (Err save.NoMemory) = after ≡ Some files
 
 -- some front of the bytes was appended, where the object tells it
 abbrev pub AppendsPrefix : Option (List ℕ) → Option (List ℕ) → List ℕ → Type 0

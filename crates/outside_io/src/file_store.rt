@@ -1,13 +1,15 @@
-ghost use Rattle.std.specs.Prelude.{◌≡◌, ◌≤◌, None, IfOk, vec_len};
+ghost use Rattle.std.specs.Prelude.{◌≡◌, ◌≢◌, ◌↔◌, ◌≤◌, ◌<◌, [], None, IfOk, IfSome, IsErrOf, OnOk, length, vec_len};
+ghost use Rattle.std.specs.Io.KnownBytes.{Appends};
+ghost use Rattle.std.specs.IoError.{error_kind};
 ghost use Rattle.outside_io.specs.Memory.{names_of};
 
-use crate::{LoadFault, MAX_FILE, Store};
+use crate::{LoadFault, MAX_FILE, SaveFault, Store};
 use std::alloc::Global;
-use std::io::Read;
+use std::io::{ErrorKind, Read, Write};
 use std::rt::Files;
 use std::{fs, io};
 
-/// The most bytes that one read asks for.
+/// The most bytes that one write is given.
 const PIECE: usize = 65_536;
 
 /// The files of the system, through the runtime. It doesn't tell what they hold.
@@ -22,7 +24,8 @@ pub struct FileStore<'a, R: Files> {
 impl<'a, R: Files> FileStore<'a, R> {
     /// The files that the runtime reaches. No call has failed yet. It takes no memory.
     pub fn new(rt: &'a R, alloc: Global) -> FileStore<'a, R>
-        ensures { result.faults ≡ 0 }
+        ensures faults { result.faults ≡ 0 }
+        ensures failed { names_of result.failed.items ≡ [] }
     {
         FileStore {
             rt,
@@ -54,13 +57,26 @@ impl<'a, R: Files> Store for FileStore<'a, R> {
             }
         }
     }
+
+    fn save(&mut self, name: &str, bytes: &[u8]) -> Result<(), SaveFault> {
+        match write_file(self.rt, name, bytes) {
+            Ok(()) => Ok(()),
+            Err(_) => {
+                self.faults = self.faults.saturating_add(1);
+                Err(SaveFault::Failed)
+            }
+        }
+    }
 }
 
-fn fault_of(error: &io::Error) -> LoadFault {
-    if error.kind() == io::ErrorKind::OutOfMemory {
-        LoadFault::NoMemory
-    } else {
-        LoadFault::Failed
+/// Want of memory exactly where the error tells it.
+fn fault_of(error: &io::Error) -> LoadFault
+    ensures no_memory { (result ≡ LoadFault.NoMemory) ↔ (error_kind error.now ≡ ErrorKind.OutOfMemory) }
+    ensures failed { result ≢ LoadFault.NoMemory → result ≡ LoadFault.Failed }
+{
+    match error.kind() {
+        ErrorKind::OutOfMemory => LoadFault::NoMemory,
+        _ => LoadFault::Failed,
     }
 }
 
@@ -69,27 +85,40 @@ fn read_file<R: Files>(rt: &R, alloc: Global, name: &str) -> Result<Vec<u8>, Loa
     ensures size { IfOk result (λ bytes. vec_len bytes ≤ MAX_FILE) }
 {
     match fs::open(rt, name) {
-        Ok(mut file) => read_all(alloc, &mut file),
+        Ok(file) => read_all(alloc, file),
         Err(error) => Err(fault_of(&error)),
     }
 }
 
 /// All bytes that the reader has left, if they are not too many. It takes one byte more at most.
-fn read_all<F: Read>(alloc: Global, file: &mut F) -> Result<Vec<u8>, LoadFault>
+fn read_all<F: Read + Drop>(alloc: Global, file: F) -> Result<Vec<u8>, LoadFault>
     ensures size { IfOk result (λ bytes. vec_len bytes ≤ MAX_FILE) }
+    ensures all { IfSome (F.remaining file) (λ left. IfOk result (λ bytes. bytes.items ≡ left)) }
+    ensures too_long { IfSome (F.remaining file) (λ left. IsErrOf result LoadFault.TooLong → MAX_FILE < length left) }
 {
     let mut bytes = Vec::new(alloc);
-    let mut piece = vec![in alloc; 0u8; PIECE]?;
-    while bytes.len() <= MAX_FILE {
-        let most = (MAX_FILE + 1 - bytes.len()).min(PIECE);
-        let count = match file.read(&mut piece[..most]) {
-            Ok(count) => count,
-            Err(error) => return Err(fault_of(&error)),
-        };
-        if count == 0 {
-            return Ok(bytes);
-        }
-        bytes.extend_from_slice(&piece[..count])?;
+    match file.take(MAX_FILE as u64 + 1).read_to_end(&mut bytes) {
+        Ok(_) if bytes.len() <= MAX_FILE => Ok(bytes),
+        Ok(_) => Err(LoadFault::TooLong),
+        Err(error) => Err(fault_of(&error)),
     }
-    Err(LoadFault::TooLong)
+}
+
+/// The file is made anew, and holds the bytes.
+fn write_file<R: Files>(rt: &R, name: &str, bytes: &[u8]) -> io::Result<()> {
+    let mut file = fs::create(rt, name)?;
+    write_in_pieces(&mut file, bytes)
+}
+
+/// Writes all bytes, in pieces. A write that takes nothing of a piece is an error.
+fn write_in_pieces<W: Write>(file: &mut W, bytes: &[u8]) -> io::Result<()>
+    ensures { OnOk result (Appends (W.contents file.old) (W.contents file.new) bytes.now) }
+{
+    let mut rest = bytes;
+    while !rest.is_empty() {
+        let most = rest.len().min(PIECE);
+        file.write_all(&rest[..most])?;
+        rest = &rest[most..];
+    }
+    Ok(())
 }

@@ -7,7 +7,7 @@
 ghost use Rattle.std.specs.Prelude.{◌≡◌, ℕ, ◌≤◌, List, IfOk, vec_len};
 ghost use Rattle.std.specs.declared.option.Option.{Option};
 ghost use Rattle.outside_io.specs.declared.LoadFault.TheVariants as load;
-ghost use Rattle.outside_io.specs.Outside.{Files, HasCause, LoadAnswers, RecordsFailure, WriteAnswers};
+ghost use Rattle.outside_io.specs.Outside.{Files, HasCause, LoadAnswers, RecordsFailure, SaveAnswers, WriteAnswers};
 
 mod file_store;
 mod memory_sink;
@@ -51,6 +51,14 @@ impl<T: Drop> From<AllocFailed<T>> for LoadFault {
     }
 }
 
+/// Why a save didn't take all bytes.
+#[derive(Clone, Copy, Debug, PartialEq, Eq)]
+pub enum SaveFault {
+    /// The save failed, and the store counted it.
+    Failed,
+    NoMemory,
+}
+
 /// Why a write didn't take all bytes.
 #[derive(Clone, Copy, Debug, PartialEq, Eq)]
 pub enum SinkFault {
@@ -76,6 +84,12 @@ pub trait Store {
         ensures size { IfOk result (λ bytes. vec_len bytes ≤ MAX_FILE) }
         ensures failed { RecordsFailure (failed self.old) (failed self.new) name.now result }
         ensures cause { HasCause (faults self.old) (faults self.new) LoadFault.Failed result };
+
+    /// The name holds the bytes. Where it fails, the name holds a front of them or what it held.
+    fn save(&mut self, name: &str, bytes: &[u8]) -> Result<(), SaveFault>
+        ensures saved { SaveAnswers (held self.old) (held self.new) name.now bytes.now result }
+        ensures failed { failed self.new ≡ failed self.old }
+        ensures cause { HasCause (faults self.old) (faults self.new) SaveFault.Failed result };
 }
 
 /// Where text goes.

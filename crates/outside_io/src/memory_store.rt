@@ -1,10 +1,10 @@
 ghost use Rattle.std.specs.Prelude.{◌≡◌, ◌↔◌, ℕ, ◌≤◌, ◌<◌, ◌≢◌, ◌⊎◌, List, [], Some, None, OnOk, OnErr, IfOk, IsErrOf, IsTrue, vec_len, length, map};
 ghost use Rattle.std.specs.Option.{option_map};
-ghost use Rattle.outside_io.specs.Memory.{after_load, files_of, load_fails};
-ghost use Rattle.outside_io.specs.Outside.{HasCause, LoadAnswers, RecordsFailure};
+ghost use Rattle.outside_io.specs.Memory.{after_load, after_save, files_of, load_fails, save_fails};
+ghost use Rattle.outside_io.specs.Outside.{HasCause, LoadAnswers, RecordsFailure, SaveAnswers};
 ghost use Rattle.std.specs.FinMap as finite;
 
-use crate::{LoadFault, MAX_FILE, Store};
+use crate::{LoadFault, MAX_FILE, SaveFault, Store};
 use preorder::NoMemory;
 use std::alloc::Global;
 use std::collections::VecDeque;
@@ -20,6 +20,8 @@ pub struct MemoryStore {
     failed: Vec<Vec<u8>>,
     loads: u64,
     load_to_fail: Option<u64>,
+    saves: u64,
+    save_to_fail: Option<(u64, usize)>,
 }
 
 impl Model for MemoryStore {
@@ -29,13 +31,13 @@ impl Model for MemoryStore {
 
     ghost coded = { coded_memory };
 
-    ghost view = { λ s. record { files = files_of s.entries.items; faults = s.faults; failed = names_of s.failed.items; loads = s.loads; load_to_fail = s.load_to_fail } };
+    ghost view = { λ s. record { files = files_of s.entries.items; faults = s.faults; failed = names_of s.failed.items; loads = s.loads; load_to_fail = s.load_to_fail; saves = s.saves; save_to_fail = s.save_to_fail } };
 }
 
 impl MemoryStore {
     /// A store that holds nothing. It takes no memory.
     pub fn new(alloc: Global) -> MemoryStore
-        ensures { result ≡ record { files = finite.empty; faults = 0; failed = []; loads = 0; load_to_fail = None } }
+        ensures { result ≡ record { files = finite.empty; faults = 0; failed = []; loads = 0; load_to_fail = None; saves = 0; save_to_fail = None } }
     {
         MemoryStore {
             alloc,
@@ -44,6 +46,8 @@ impl MemoryStore {
             failed: Vec::new(alloc),
             loads: 0,
             load_to_fail: None,
+            saves: 0,
+            save_to_fail: None,
         }
     }
 
@@ -70,6 +74,28 @@ impl MemoryStore {
         ensures { self.new ≡ record self.old { load_to_fail = Some nth } }
     {
         self.load_to_fail = Some(nth);
+    }
+
+    /// The nth save of the store's life, counted from 1, is to fail: the name then holds the first `kept` bytes, or all where there are fewer.
+    /// A later call replaces an earlier one.
+    pub fn fail_save(&mut self, nth: u64, kept: usize)
+        ensures { self.new ≡ record self.old { save_to_fail = Some (nth, kept) } }
+    {
+        self.save_to_fail = Some((nth, kept));
+    }
+
+    /// How many loads there were, failed ones among them. It stays at `u64::MAX`.
+    pub fn loads(&self) -> u64
+        ensures { result ≡ self.now.loads }
+    {
+        self.loads
+    }
+
+    /// How many saves there were, failed ones among them. It stays at `u64::MAX`.
+    pub fn saves(&self) -> u64
+        ensures { result ≡ self.now.saves }
+    {
+        self.saves
     }
 }
 
@@ -128,5 +154,27 @@ impl Store for MemoryStore {
         }
         self.faults = self.faults.saturating_add(1);
         Err(LoadFault::Failed)
+    }
+
+    fn save(&mut self, name: &str, bytes: &[u8]) -> Result<(), SaveFault>
+        ensures saved { SaveAnswers (Some self.old.files) (Some self.new.files) name.now bytes.now result }
+        ensures failed { self.new.failed ≡ self.old.failed }
+        ensures cause { HasCause self.old.faults self.new.faults SaveFault.Failed result }
+        ensures fails { (result ≡ Err SaveFault.NoMemory) ⊎ (IsErrOf result SaveFault.Failed ↔ IsTrue (save_fails self.old)) }
+        ensures after { self.new ≡ after_save self.old name.now bytes.now result }
+    {
+        self.saves = self.saves.saturating_add(1);
+        let (named, kept) = match self.save_to_fail {
+            Some((nth, kept)) if nth == self.saves => (true, kept.min(bytes.len())),
+            _ => (false, bytes.len()),
+        };
+        if self.put(name, &bytes[..kept]).is_err() {
+            return Err(SaveFault::NoMemory);
+        }
+        if named {
+            self.faults = self.faults.saturating_add(1);
+            return Err(SaveFault::Failed);
+        }
+        Ok(())
     }
 }

@@ -1,5 +1,5 @@
 -- `compare BOOK TABLE`: how each row stands to each later one.
-use Rattle.std.specs.Prelude.{◌≡◌, ℕ, ◌<◌, ⊤, List, [], ◌∷◌, ◌++◌, length, map, slice_index_or, codes}
+use Rattle.std.specs.Prelude.{◌≡◌, ℕ, ◌<◌, ⊤, List, [], ◌∷◌, ◌++◌, length, map, slice_index_or, None, codes}
 use Rattle.outside_io.specs.Outside.{Files}
 use Rattle.preorder.specs.declared.row.Row.{Row}
 use Rattle.text_lines.specs.Lines.{word}
@@ -10,7 +10,8 @@ use Rattle.rulebook_order.specs.NoWorseUnder.{IsVerdictUnder}
 use Rattle.rulebook_order.specs.declared.verdict.Verdict.{Verdict}
 use Rattle.rulebook_order.specs.declared.verdict.Verdict.TheVariants.{Equal, First, Second, Neither}
 use Rattle.command_outcome.specs.declared.outcome.Status.TheVariants as status
-use Rattle.command_outcome.specs.Outcome.{Outcome, Settles}
+use Rattle.command_outcome.specs.Outcome.{Outcome}
+use Rattle.command_outcome.specs.Tasks.{Task}
 use Rattle.rulebook_cli.specs.Inputs.{book_and_table}
 
 -- each item with each later one, by the first and then by the second
@@ -68,5 +69,5 @@ pub record CompareMakes (files : Files) (inputs : Book × Table) (outcome : Outc
   pub stays : outcome.files ≡ files
   pub says : IsCompareText inputs.0 inputs.1.rows outcome.text
 
-abbrev pub IsCompareDue : List ℕ → List ℕ → Files → Outcome → Type 0
-IsCompareDue book table files outcome = Settles (book_and_table files book table) (CompareMakes files) files outcome
+abbrev pub compare_task : List ℕ → List ℕ → Task
+compare_task book table = record { Input = Book × Table; inputs = book_and_table book table; Makes = CompareMakes; saves = None }

@@ -4,6 +4,6 @@ pub mod Pick
 pub mod ScenarioInput
 pub mod Show
 pub mod Compare
-pub mod Due
+pub mod Asked
 pub mod ExitStatus
 pub mod Laws

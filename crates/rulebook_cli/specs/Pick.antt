@@ -1,5 +1,5 @@
 -- `pick BOOK TABLE`: the rows that no row beats, of equal ones the first.
-use Rattle.std.specs.Prelude.{◌≡◌, ℕ, List, [], ◌∷◌, length, slice_index_or, codes}
+use Rattle.std.specs.Prelude.{◌≡◌, ℕ, List, [], ◌∷◌, length, slice_index_or, None, codes}
 use Rattle.std.specs.List.{flat_map}
 use Rattle.outside_io.specs.Outside.{Files}
 use Rattle.preorder.specs.declared.row.Row.{Row}
@@ -9,7 +9,8 @@ use Rattle.rule_language.specs.declared.table.Table.{Table}
 use Rattle.rulebook_order.specs.NoWorseUnder.{NoWorseUnder}
 use Rattle.rulebook_order.specs.Front.{vectors_of, IsFront}
 use Rattle.command_outcome.specs.declared.outcome.Status.TheVariants as status
-use Rattle.command_outcome.specs.Outcome.{Outcome, Settles}
+use Rattle.command_outcome.specs.Outcome.{Outcome}
+use Rattle.command_outcome.specs.Tasks.{Task}
 use Rattle.rulebook_cli.specs.Inputs.{book_and_table}
 
 abbrev pub no_row : Row
@@ -34,5 +35,5 @@ pub record PickMakes (files : Files) (inputs : Book × Table) (outcome : Outcome
   pub stays : outcome.files ≡ files
   pub says : IsPickText inputs.0 inputs.1.rows outcome.text
 
-abbrev pub IsPickDue : List ℕ → List ℕ → Files → Outcome → Type 0
-IsPickDue book table files outcome = Settles (book_and_table files book table) (PickMakes files) files outcome
+abbrev pub pick_task : List ℕ → List ℕ → Task
+pick_task book table = record { Input = Book × Table; inputs = book_and_table book table; Makes = PickMakes; saves = None }

@@ -1,5 +1,5 @@
 -- `show SCENARIO`: what the document of a scenario says, in lines.
-use Rattle.std.specs.Prelude.{◌≡◌, ℕ, ◌+◌, Bool, true, false, List, ◌++◌, length, codes, Option, Result, Ok}
+use Rattle.std.specs.Prelude.{◌≡◌, ℕ, ◌+◌, Bool, true, false, List, ◌++◌, length, codes, None}
 use Rattle.std.specs.List.{flat_map}
 use Rattle.std.specs.Fmt.{decimal, signed_decimal}
 use Rattle.outside_io.specs.Outside.{Files}
@@ -10,11 +10,10 @@ use Rattle.scenario_model.specs.declared.problem.Problem.{Problem}
 use Rattle.scenario_model.specs.declared.scenario.Scenario.{Scenario}
 use Rattle.scenario_model.specs.declared.scenario.Version.{Version}
 use Rattle.scenario_model.specs.declared.scenario.Version.TheVariants.{V2020a, V2018b}
-use Rattle.command_outcome.specs.declared.outcome.Role.{Role}
-use Rattle.command_outcome.specs.declared.outcome.Role.TheVariants as role
 use Rattle.command_outcome.specs.declared.outcome.Status.TheVariants as status
-use Rattle.command_outcome.specs.Outcome.{Halt, Outcome, Settles, ◌>>=◌, file_as}
-use Rattle.rulebook_cli.specs.ScenarioInput.{scenario_read}
+use Rattle.command_outcome.specs.Outcome.{Outcome}
+use Rattle.command_outcome.specs.Tasks.{Task}
+use Rattle.rulebook_cli.specs.ScenarioInput.{scenario_input}
 
 abbrev pub version_text : Version → List ℕ
 version_text V2020a = codes "2020a"
@@ -57,19 +56,9 @@ problem_lines problems = codes "problems " ++ (decimal (length problems) ++ (cod
 abbrev pub show_text : Scenario → List ℕ
 show_text s = head_lines s ++ (lanelet_lines s.lanelets ++ (obstacle_lines s.obstacles ++ problem_lines s.problems))
 
-abbrev pub show_input : Files → List ℕ → Result Scenario Halt
-show_input files name = do
-  s ← file_as role.Scenario scenario_read files name
-  Ok s
-
 -- what is made of the input: the files stay
 abbrev pub ShowMakes : Files → Scenario → Outcome → Type 0
 ShowMakes files scenario outcome = outcome ≡ record { status = status.Done; text = show_text scenario; files = files }
 
-abbrev pub IsShowDue : List ℕ → Files → Outcome → Type 0
-IsShowDue name files outcome = Settles (show_input files name) (ShowMakes files) files outcome
-
--- the one file
-abbrev pub ReachesScenario : List ℕ → Option Files → Role → List ℕ → Type 0
-ReachesScenario scenario_name held role.Scenario name = name ≡ scenario_name
-ReachesScenario scenario_name held role name = ⊥
+abbrev pub show_task : List ℕ → Task
+show_task name = record { Input = Scenario; inputs = scenario_input name; Makes = ShowMakes; saves = None }

@@ -5,10 +5,9 @@ ghost use Rattle.rule_language.specs.Books.{IsBook};
 ghost use Rattle.rule_language.specs.Tables.{IsTable};
 ghost use Rattle.rulebook_order.specs.NoWorseBy.{IsVerdictBy};
 ghost use Rattle.command_outcome.specs.Ends.{Serves, shelf};
-ghost use Rattle.rulebook_cli.specs.Inputs.{ReachesBookOrTable};
-ghost use Rattle.rulebook_cli.specs.Compare.{AddsLines, AreNamed, IsCompareDue, IsCompareText, IsPairLine, pairs, rule_name, verdict_text};
+ghost use Rattle.rulebook_cli.specs.Compare.{AddsLines, AreNamed, IsCompareText, IsPairLine, compare_task, pairs, rule_name, verdict_text};
 
-use crate::inputs::{load_book, load_table};
+use crate::inputs::load_book_and_table;
 use command_outcome::Stop;
 use outside_io::Store;
 use preorder::{Preorder, Row};
@@ -113,11 +112,10 @@ pub fn compare_rows<S: Store>(
     book: &str,
     table: &str,
 ) -> Result<Vec<u8>, Stop>
-    ensures { Serves (IsCompareDue book.now table.now) (ReachesBookOrTable book.now table.now)
+    ensures { Serves (compare_task book.now table.now)
         (shelf S.held S.faults S.failed store.old) (shelf S.held S.faults S.failed store.new) result }
 {
-    let book = load_book(alloc, store, book)?;
-    let table = load_table(alloc, store, table, &book)?;
+    let (book, table) = load_book_and_table(alloc, store, book, table)?;
     let text = compare_text(alloc, &book, table.rows.as_slice())?;
     Ok(text)
 }

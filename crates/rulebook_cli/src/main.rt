@@ -1,6 +1,6 @@
 //! The program: words come in, and one text and one status go out.
 //!
-//! `run_rulebook` of `src/top.rt` is all that the program does, and its clauses say what that is. What is due to the words over the files stands in `specs/Due.antt`.
+//! `run_rulebook` of `src/top.rt` is all that the program does, and its clauses say what that is. What is due to the words over the files stands in `specs/Asked.antt`.
 //! Each command is a file of code, one of definitions and one of lemmas.
 #![tactic(auto)]
 
@@ -34,6 +34,8 @@ fn exit_status(status: Status) -> u8
         Status::ReadFault => 3,
         Status::WriteFault => 4,
         Status::NoMemory => 5,
+        Status::Rejected => 6,
+        Status::TooManyLabels => 7,
     }
 }
 

@@ -2,10 +2,9 @@ ghost use Rattle.std.specs.Prelude.{◌≡◌, ◌<◌, length, All, IfOk};
 ghost use Rattle.rule_language.specs.Books.{IsBook};
 ghost use Rattle.rule_language.specs.Tables.{IsTable};
 ghost use Rattle.command_outcome.specs.Ends.{Serves, shelf};
-ghost use Rattle.rulebook_cli.specs.Inputs.{ReachesBookOrTable};
-ghost use Rattle.rulebook_cli.specs.Pick.{IsPickDue, IsPickText, kept_lines};
+ghost use Rattle.rulebook_cli.specs.Pick.{IsPickText, kept_lines, pick_task};
 
-use crate::inputs::{load_book, load_table};
+use crate::inputs::load_book_and_table;
 use command_outcome::Stop;
 use outside_io::Store;
 use preorder::{NoMemory, Row};
@@ -49,11 +48,10 @@ pub fn pick<S: Store>(
     book: &str,
     table: &str,
 ) -> Result<Vec<u8>, Stop>
-    ensures { Serves (IsPickDue book.now table.now) (ReachesBookOrTable book.now table.now)
+    ensures { Serves (pick_task book.now table.now)
         (shelf S.held S.faults S.failed store.old) (shelf S.held S.faults S.failed store.new) result }
 {
-    let book = load_book(alloc, store, book)?;
-    let table = load_table(alloc, store, table, &book)?;
+    let (book, table) = load_book_and_table(alloc, store, book, table)?;
     let text = pick_text(alloc, &book, table.rows.as_slice())?;
     Ok(text)
 }

@@ -1,9 +1,10 @@
-ghost use Rattle.std.specs.Prelude.{◌≡◌, ◌++◌, codes};
+ghost use Rattle.std.specs.Prelude.{◌≡◌, ◌++◌, IfOk, codes};
+ghost use Rattle.scenario_model.specs.Scenario.{IsScenario};
 ghost use Rattle.scenario_xml.specs.Faults.{word};
 ghost use Rattle.command_outcome.specs.declared.outcome.Role.TheVariants as role;
 ghost use Rattle.command_outcome.specs.Ends.{Loads, shelf};
 ghost use Rattle.command_outcome.specs.Outcome.{Refuses};
-ghost use Rattle.rulebook_cli.specs.ScenarioInput.{RefusesScenario, kind_text, markup_fault_text, scenario_read};
+ghost use Rattle.rulebook_cli.specs.ScenarioInput.{kind_text, markup_fault_text, scenario_fault_text, scenario_input};
 
 use command_outcome::{Role, Stop, load_bytes, refuse, refuse_at};
 use element_tree::MarkupFault;
@@ -14,8 +15,9 @@ use std::alloc::Global;
 
 /// The scenario under the name.
 pub fn load_scenario<S: Store>(alloc: Global, store: &mut S, name: &str) -> Result<Scenario, Stop>
-    ensures { Loads (λ s. s) role.Scenario scenario_read name.now
+    ensures loads { Loads (λ scenario. scenario) (scenario_input name.now)
         (shelf S.held S.faults S.failed store.old) (shelf S.held S.faults S.failed store.new) result }
+    ensures well_formed { IfOk result IsScenario }
 {
     let bytes = load_bytes(alloc, store, Role::Scenario, name)?;
     match read_scenario(alloc, bytes.as_slice()) {
@@ -26,7 +28,7 @@ pub fn load_scenario<S: Store>(alloc: Global, store: &mut S, name: &str) -> Resu
 
 /// The refusal of a scenario, or want of memory.
 fn refuse_scenario(alloc: Global, fault: ScenarioFault) -> Stop
-    ensures { RefusesScenario fault result }
+    ensures { Refuses role.Scenario (scenario_fault_text fault) result }
 {
     match fault {
         ScenarioFault::Markup(inner) => refuse_markup(alloc, inner),

@@ -3,7 +3,7 @@ ghost use Rattle.std.specs.List.{flat_map};
 ghost use Rattle.std.specs.String.{string_bytes};
 ghost use Rattle.text_lines.specs.Lines.{cells};
 ghost use Rattle.command_outcome.specs.Ends.{Serves, shelf};
-ghost use Rattle.rulebook_cli.specs.Show.{IsShowDue, ReachesScenario, head_lines, lanelet_line, lanelet_lines, moving_text, obstacle_line, obstacle_lines, problem_line, problem_lines, show_text, version_text};
+ghost use Rattle.rulebook_cli.specs.Show.{head_lines, lanelet_line, lanelet_lines, moving_text, obstacle_line, obstacle_lines, problem_line, problem_lines, show_task, show_text, version_text};
 
 use crate::scenario_input::load_scenario;
 use command_outcome::Stop;
@@ -137,7 +137,7 @@ fn show_text(alloc: Global, scenario: &Scenario) -> Result<String, AllocError>
 
 /// What `show SCENARIO` writes.
 pub fn show<S: Store>(alloc: Global, store: &mut S, scenario: &str) -> Result<Vec<u8>, Stop>
-    ensures { Serves (IsShowDue scenario.now) (ReachesScenario scenario.now)
+    ensures { Serves (show_task scenario.now)
         (shelf S.held S.faults S.failed store.old) (shelf S.held S.faults S.failed store.new) result }
 {
     let scenario = load_scenario(alloc, store, scenario)?;

@@ -1,20 +1,21 @@
 ghost use Rattle.std.specs.Prelude.{◌≡◌, ◌⊎◌};
 ghost use Rattle.std.specs.Io.KnownBytes.{Appends};
-ghost use Rattle.command_outcome.specs.Ends.{Answers, EndsCut, EndsDue, EndsUnread, IsComplete, IsDueStatus, Serves, paper, shelf};
+ghost use Rattle.command_outcome.specs.Outcome.{IsDueStatus};
+ghost use Rattle.command_outcome.specs.Ends.{Answers, EndsCut, EndsDue, EndsUnread, EndsUnsaved, EndsUsage, IsComplete, Serves, paper, shelf};
 ghost use Rattle.rulebook_cli.specs.Words.{HasNoReading, request_of, texts};
-ghost use Rattle.rulebook_cli.specs.Due.{IsDue, IsDueTo, Reaches, ReachesFor};
+ghost use Rattle.rulebook_cli.specs.Asked.{asked, task_of};
 
 use crate::comparing::compare_rows;
 use crate::picking::pick;
 use crate::showing::show;
 use crate::words::{Command, read_words};
-use command_outcome::{Reply, Status, Stop, deliver, said};
+use command_outcome::{Reply, Status, Stop, deliver};
 use outside_io::{Sink, Store};
 use std::alloc::Global;
 
 /// Does the command's work.
 fn serve<S: Store>(alloc: Global, store: &mut S, command: Command<'_>) -> Result<Vec<u8>, Stop>
-    ensures { Serves (IsDueTo (request_of command.entry)) (ReachesFor (request_of command.entry))
+    ensures { Serves (task_of (request_of command.entry))
         (shelf S.held S.faults S.failed store.old) (shelf S.held S.faults S.failed store.new) result }
 {
     match command {
@@ -26,31 +27,17 @@ fn serve<S: Store>(alloc: Global, store: &mut S, command: Command<'_>) -> Result
 
 /// Reads the words, and does the work that they ask for.
 fn answer<S: Store>(alloc: Global, words: &[String], store: &mut S) -> Reply
-    ensures { Answers (IsDue (texts words.now)) (Reaches (texts words.now)) (HasNoReading (texts words.now))
+    ensures { Answers (asked (texts words.now)) (HasNoReading (texts words.now))
         (shelf S.held S.faults S.failed store.old) (shelf S.held S.faults S.failed store.new) result.status result.text.items }
 {
     let Some(command) = read_words(words) else {
-        return said(alloc, Status::Usage, "usage: see --help\n");
+        return Reply::usage(alloc);
     };
-    match serve(alloc, store, command) {
-        Ok(text) => Reply {
-            status: Status::Done,
-            text,
-        },
-        Err(Stop::Refused(text)) => Reply {
-            status: Status::Refused,
-            text,
-        },
-        Err(Stop::Unread(role)) => said(alloc, Status::ReadFault, role.unread()),
-        Err(Stop::NoMemory) => Reply {
-            status: Status::NoMemory,
-            text: Vec::new(alloc),
-        },
-    }
+    Reply::to(alloc, serve(alloc, store, command))
 }
 
-/// Does all that the program does: reads the words, loads and reads the files, does the command's work, and
-/// writes one text. Nothing is written before the whole text is made.
+/// Does all that the program does: reads the words, loads and reads the files, does the command's work, saves what it saves, and
+/// writes one text. Nothing is saved or written before the whole text is made.
 pub fn run_rulebook<S: Store, K: Sink>(
     alloc: Global,
     words: &[String],
@@ -58,34 +45,39 @@ pub fn run_rulebook<S: Store, K: Sink>(
     out: &mut K,
 ) -> Status
     // The status is the due one; a due text was appended and nothing else; the files are as the due outcome says.
-    ensures due { IsDueStatus result → EndsDue (IsDue (texts words.now))
+    ensures due { IsDueStatus result → EndsDue (asked (texts words.now))
         (shelf S.held S.faults S.failed store.old) (shelf S.held S.faults S.failed store.new) result
         (Appends (K.written out.old) (K.written out.new)) }
 
     // A file of the words couldn't be read, every one before it has a reading, and the text says which.
-    ensures read_fault { result ≡ Status.ReadFault → EndsUnread (Reaches (texts words.now))
+    ensures read_fault { result ≡ Status.ReadFault → EndsUnread (asked (texts words.now))
         (shelf S.held S.faults S.failed store.old) (shelf S.held S.faults S.failed store.new)
         (Appends (K.written out.old) (K.written out.new)) }
 
-    // The sink failed on a due text, or on the one that says which file couldn't be read: a front of it was appended.
+    // The save of a due outcome failed, and nothing was written; or the sink failed on a due text, or on the one that says which
+    // file couldn't be read, and a front of it was appended.
     ensures write_fault { result ≡ Status.WriteFault →
-        EndsCut (IsDue (texts words.now)) (Reaches (texts words.now))
+        EndsUnsaved (asked (texts words.now))
+        (shelf S.held S.faults S.failed store.old) (shelf S.held S.faults S.failed store.new)
+        (paper K.written K.faults out.old) (paper K.written K.faults out.new)
+        ⊎ EndsCut (asked (texts words.now))
         (shelf S.held S.faults S.failed store.old) (shelf S.held S.faults S.failed store.new)
         (paper K.written K.faults out.old) (paper K.written K.faults out.new) }
 
-    // Memory ran out: nothing was done.
+    // Memory ran out: nothing was saved or written.
     ensures no_memory { result ≡ Status.NoMemory →
         (S.held store.new ≡ S.held store.old) × (K.written out.new ≡ K.written out.old) }
 
     // Where no count of faults rose, the status is the due one, unless memory ran out.
-    ensures complete { IsComplete (IsDue (texts words.now))
+    ensures complete { IsComplete (asked (texts words.now))
         (shelf S.held S.faults S.failed store.old) (shelf S.held S.faults S.failed store.new)
         (paper K.written K.faults out.old) (paper K.written K.faults out.new) result }
 
-    // Words with no reading are told by their status alone, whatever the store.
+    // Words with no reading, and no others, are told the usage, whatever the store and the sink tell. No file is touched.
     ensures usage { result ≡ Status.Usage → HasNoReading (texts words.now) }
-    ensures bad_words { HasNoReading (texts words.now) →
-        (result ≡ Status.Usage) ⊎ (result ≡ Status.WriteFault) ⊎ (result ≡ Status.NoMemory) }
+    ensures bad_words { HasNoReading (texts words.now) → EndsUsage
+        (shelf S.held S.faults S.failed store.old) (shelf S.held S.faults S.failed store.new)
+        (paper K.written K.faults out.old) (paper K.written K.faults out.new) result }
 {
     let reply = answer(alloc, words, store);
     deliver(out, &reply)

@@ -1,0 +1,20 @@
+-- What words ask for, as a task. This project's own.
+use Rattle.std.specs.Prelude.{ℕ, List, Option, None, Some}
+use Rattle.command_outcome.specs.Tasks.{Task, usage}
+use Rattle.rulebook_cli.specs.Words.{Request, pick, compare, show, reading}
+use Rattle.rulebook_cli.specs.Pick.{pick_task}
+use Rattle.rulebook_cli.specs.Compare.{compare_task}
+use Rattle.rulebook_cli.specs.Show.{show_task}
+
+abbrev pub task_of : Request → Task
+task_of (pick book table) = pick_task book table
+task_of (compare book table) = compare_task book table
+task_of (show scenario) = show_task scenario
+
+-- words with no reading are told the usage
+abbrev pub task_by : Option Request → Task
+task_by None = usage
+task_by (Some request) = task_of request
+
+abbrev pub asked : List (List ℕ) → Task
+asked words = task_by (reading words)
