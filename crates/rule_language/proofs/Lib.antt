@@ -1,4 +1,12 @@
 pub mod Comments
 pub mod Utf8
-pub mod Consistent
+pub mod Names
+pub mod TableRows
+pub mod OneByOne
 pub mod TableWidth
+pub mod Zeros
+pub mod PartLaw
+pub mod Plain
+pub mod BookLaw
+pub mod PartSound
+pub mod Keeps

@@ -1,21 +1,29 @@
-ghost use Rattle.std.specs.Prelude.{◌≡◌, ℕ, ◌<◌, List, length, map, IfOk, IfErr, OnOk, IfSome};
+ghost use Rattle.std.specs.Prelude.{◌≡◌, ℕ, ◌<◌, List, length, map, IfOk, IfErr, IfSome};
 ghost use Rattle.std.specs.Bool.{OnFalse};
 ghost use Rattle.std.specs.Str.{bytes_eq};
 ghost use Rattle.preorder.specs.Preorder.{rules_of, at_least};
-ghost use Rattle.preorder.specs.Statements.{IsClosure, InRange};
+ghost use Rattle.preorder.specs.Statements.{IsClosure};
 ghost use Rattle.reading.specs.Lines.{lines_of};
 ghost use Rattle.reading.specs.Reading.{Gives, IsFirstFault};
-ghost use Rattle.rule_language.specs.Books.{is_memory, is_of_file, place_of, rule_line, known, pair, above_line, same_line, book_words, book_line, no_lines, book_of, IsBook, IsConsistent};
+ghost use Rattle.reading.specs.Words.{number_of};
+ghost use Rattle.expressions.specs.Reading.{expr_of};
+ghost use Rattle.rule_language.specs.Books.{is_memory, is_of_file, place_of, rule_line, known, pair, above_line, same_line, weight_from, or_syntax, part_of, add_part, part_line, pair_line, book_words, book_line, no_lines, book_of, IsBook, AnyBook};
 ghost use Rattle.rule_language.specs.declared.book.BookFault.TheVariants as faults;
 
+use crate::limits::{MAX_PARTS, MAX_RULES, MAX_WEIGHT};
 use crate::line_file::{LineReader, read_all};
+use crate::named::Named;
+use crate::part::{Part, line_fits, without_zeros};
+use expressions::{Expr, ExprFault, read_spelled};
 use preorder::{List, Name, NoMemory, Preorder, PreorderFault};
+use reading::number_in;
 use std::alloc::Global;
 
-/// A rule of a book.
+/// A rule of a book. One without parts is bare.
 #[derive(Drop)]
 pub struct Rule {
     pub name: Name,
+    pub parts: List<Part>,
 }
 
 /// A rulebook: its rules, and the statements on them. A statement `(a, b)` says that the rule at place `a` is at
@@ -26,17 +34,28 @@ pub struct Book {
     pub statements: List<(usize, usize)>,
 }
 
-/// Why bytes are no book. A number is that of the line, counted from 1.
+/// Why bytes are no book. A number is that of the first faulty line, counted from 1. Of the faults of a line, the one
+/// that stands first here is named.
 #[derive(Clone, Copy, Debug, PartialEq, Eq)]
 pub enum BookFault {
+    /// The bytes are not UTF-8.
     NotUtf8,
+    /// The line has not the form of one of a book, or more than `MAX_LINE` bytes, or its part does not fit its written
+    /// line (`written_fits`).
     Syntax(usize),
+    /// A name is that of no rule of an earlier line.
     UnknownName(usize),
+    /// A rule of an earlier line has the name.
     DuplicateName(usize),
+    /// The weight is 0 or over `MAX_WEIGHT`.
     BadWeight(usize),
+    /// There are `MAX_RULES` rules before the line.
     TooManyRules(usize),
+    /// The rule has `MAX_PARTS` parts before the line.
     TooManyParts(usize),
+    /// No line has a fault, and there is no rule.
     NoRules,
+    /// Memory could not be had.
     NoMemory,
 }
 
@@ -48,24 +67,15 @@ impl From<NoMemory> for BookFault {
     }
 }
 
-/// The most rules that a book may have.
-const MAX_RULES: usize = 32;
-
-fn is_named(rule: &Rule, name: &[u8]) -> bool
-    ensures { result ≡ bytes_eq rule.now.name name.now }
-{
-    rule.name.as_slice() == name
-}
-
 #[tactic(auto, unfolding(crate::specs::Books::place_of))]
 fn place_of(rules: &[Rule], name: &[u8]) -> Option<usize>
     ensures inside { IfSome result (λ i. i < length rules.now) }
     ensures exact { result ≡ place_of name.now rules.now }
 {
-    rules.iter().position(|rule| is_named(rule, name))
+    rules.iter().position(|rule| rule.is_named(name))
 }
 
-/// The place of a rule of an earlier line.
+// The place of a rule of an earlier line.
 #[tactic(auto, unfolding(crate::specs::Books::known))]
 fn known(number: usize, rules: &[Rule], name: &[u8]) -> Result<usize, BookFault>
     ensures inside { IfOk result (λ i. i < length rules.now) }
@@ -77,11 +87,10 @@ fn known(number: usize, rules: &[Rule], name: &[u8]) -> Result<usize, BookFault>
     }
 }
 
-/// The places of two rules of earlier lines.
+// The places of two rules of earlier lines.
 #[tactic(auto, unfolding(crate::specs::Books::pair))]
 fn pair_of(number: usize, rules: &[Rule], a: &[u8], b: &[u8]) -> Result<(usize, usize), BookFault>
-    ensures exact { Gives is_memory (λ p. p) result (pair number a.now b.now rules.now) }
-    ensures inside { IfOk result (InRange (length rules.now)) }
+    ensures { Gives is_memory (λ p. p) result (pair number a.now b.now rules.now) }
 {
     if Name::new(a).is_none() || Name::new(b).is_none() {
         return Err(BookFault::Syntax(number));
@@ -89,6 +98,52 @@ fn pair_of(number: usize, rules: &[Rule], a: &[u8], b: &[u8]) -> Result<(usize, 
     let upper = known(number, rules, a)?;
     let lower = known(number, rules, b)?;
     Ok((upper, lower))
+}
+
+fn weight_of(number: usize, weight: &[u8]) -> Result<u64, BookFault>
+    ensures { Gives is_memory (λ w. w) result (weight_from number (number_of weight.now)) }
+{
+    match number_in(weight) {
+        Some(weight) => Ok(weight),
+        None => Err(BookFault::Syntax(number)),
+    }
+}
+
+fn expr_of(alloc: Global, number: usize, words: &[&[u8]]) -> Result<Expr, BookFault>
+    ensures { Gives is_memory (λ e. e) result (or_syntax number (expr_of (map (λ w. w.now) words.now))) }
+{
+    match read_spelled(alloc, words) {
+        Ok(expr) => Ok(expr),
+        Err(ExprFault::Syntax) => Err(BookFault::Syntax(number)),
+        Err(ExprFault::NoMemory) => Err(BookFault::NoMemory),
+    }
+}
+
+// The part of a line, by its words after the kind.
+#[tactic(auto, unfolding(crate::specs::Books::part_of))]
+fn part_of(
+    alloc: Global,
+    number: usize,
+    at_end: bool,
+    name: &[u8],
+    weight: &[u8],
+    expr: &[&[u8]],
+) -> Result<Part, BookFault>
+    ensures { Gives is_memory (λ p. p) result (part_of number at_end name.now weight.now (map (λ w. w.now) expr.now)) }
+{
+    let Some(rule) = Name::new(name) else {
+        return Err(BookFault::Syntax(number));
+    };
+    let value = weight_of(number, weight)?;
+    let expr = expr_of(alloc, number, expr)?;
+    if !line_fits(at_end, &rule, without_zeros(weight).len(), &expr) {
+        return Err(BookFault::Syntax(number));
+    }
+    Ok(Part {
+        weight: value,
+        expr,
+        at_end,
+    })
 }
 
 impl Book {
@@ -105,10 +160,8 @@ impl Book {
     }
 
     #[tactic(auto, unfolding(crate::specs::Books::rule_line))]
-    fn add_rule(&mut self, number: usize, name: &[u8]) -> Result<(), BookFault>
-        requires { IsConsistent self.old }
-        ensures exact { Gives is_memory (λ _. self.new) result (rule_line number name.now self.old) }
-        ensures sound { OnOk result (IsConsistent self.new) }
+    fn add_rule(&mut self, alloc: Global, number: usize, name: &[u8]) -> Result<(), BookFault>
+        ensures { Gives is_memory (λ _. self.new) result (rule_line number name.now self.old) }
     {
         let Some(new) = Name::new(name) else {
             return Err(BookFault::Syntax(number));
@@ -119,15 +172,63 @@ impl Book {
         if self.rules.as_slice().len() >= MAX_RULES {
             return Err(BookFault::TooManyRules(number));
         }
-        self.rules.push(Rule { name: new })?;
+        self.rules.push(Rule {
+            name: new,
+            parts: List::new(alloc),
+        })?;
         Ok(())
+    }
+
+    #[tactic(auto, unfolding(crate::specs::Books::add_part))]
+    fn add_part(&mut self, number: usize, place: usize, part: Part) -> Result<(), BookFault>
+        requires { place < length self.old.rules }
+        ensures { Gives is_memory (λ _. self.new) result (add_part number place part self.old) }
+    {
+        if part.weight < 1 || part.weight > MAX_WEIGHT {
+            return Err(BookFault::BadWeight(number));
+        }
+        let parts = &mut self.rules.at_mut(place).parts;
+        if parts.as_slice().len() >= MAX_PARTS {
+            return Err(BookFault::TooManyParts(number));
+        }
+        parts.push(part)?;
+        Ok(())
+    }
+
+    #[tactic(auto, unfolding(crate::specs::Books::part_line))]
+    fn add_line(
+        &mut self,
+        alloc: Global,
+        number: usize,
+        at_end: bool,
+        name: &[u8],
+        weight: &[u8],
+        expr: &[&[u8]],
+    ) -> Result<(), BookFault>
+        ensures { Gives is_memory (λ _. self.new) result
+            (part_line number at_end name.now weight.now (map (λ w. w.now) expr.now) self.old) }
+    {
+        let part = part_of(alloc, number, at_end, name, weight, expr)?;
+        let place = known(number, self.rules.as_slice(), name)?;
+        self.add_part(number, place, part)
+    }
+
+    #[tactic(auto, unfolding(crate::specs::Books::pair_line))]
+    fn add_pair(&mut self, number: usize, kind: &[u8], a: &[u8], b: &[u8]) -> Result<(), BookFault>
+        ensures { Gives is_memory (λ _. self.new) result (pair_line number kind.now a.now b.now self.old) }
+    {
+        if kind == b"above".as_slice() {
+            self.add_above(number, a, b)
+        } else if kind == b"same".as_slice() {
+            self.add_same(number, a, b)
+        } else {
+            Err(BookFault::Syntax(number))
+        }
     }
 
     #[tactic(auto, unfolding(crate::specs::Books::above_line))]
     fn add_above(&mut self, number: usize, a: &[u8], b: &[u8]) -> Result<(), BookFault>
-        requires { IsConsistent self.old }
-        ensures exact { Gives is_memory (λ _. self.new) result (above_line number a.now b.now self.old) }
-        ensures sound { OnOk result (IsConsistent self.new) }
+        ensures { Gives is_memory (λ _. self.new) result (above_line number a.now b.now self.old) }
     {
         let pair = pair_of(number, self.rules.as_slice(), a, b)?;
         self.statements.push(pair)?;
@@ -136,9 +237,7 @@ impl Book {
 
     #[tactic(auto, unfolding(crate::specs::Books::same_line))]
     fn add_same(&mut self, number: usize, a: &[u8], b: &[u8]) -> Result<(), BookFault>
-        requires { IsConsistent self.old }
-        ensures exact { Gives is_memory (λ _. self.new) result (same_line number a.now b.now self.old) }
-        ensures sound { OnOk result (IsConsistent self.new) }
+        ensures { Gives is_memory (λ _. self.new) result (same_line number a.now b.now self.old) }
     {
         let (upper, lower) = pair_of(number, self.rules.as_slice(), a, b)?;
         self.statements.push((upper, lower))?;
@@ -154,7 +253,7 @@ impl LineReader for Book {
 
     ghost too_long = { faults.Syntax };
 
-    ghost is_sound = { IsConsistent };
+    ghost is_sound = { AnyBook };
 
     ghost step = { book_words };
 
@@ -169,24 +268,27 @@ impl LineReader for Book {
     #[tactic(auto, unfolding(crate::specs::Books::book_words))]
     fn read_words(
         &mut self,
-        _alloc: Global,
+        alloc: Global,
         number: usize,
         words: &[&[u8]],
     ) -> Result<(), BookFault> {
         match words {
-            [kind, name] if *kind == b"rule".as_slice() => self.add_rule(number, name),
-            [kind, a, b] if *kind == b"above".as_slice() => self.add_above(number, a, b),
-            [kind, a, b] if *kind == b"same".as_slice() => self.add_same(number, a, b),
+            [kind, name] if *kind == b"rule".as_slice() => self.add_rule(alloc, number, name),
+            [kind, a, b] => self.add_pair(number, kind, a, b),
+            [kind, name, weight, _word, _others @ ..] if *kind == b"part".as_slice() => {
+                self.add_line(alloc, number, false, name, weight, &words[3..])
+            }
+            [kind, name, weight, _word, _others @ ..] if *kind == b"final".as_slice() => {
+                self.add_line(alloc, number, true, name, weight, &words[3..])
+            }
             _ => Err(BookFault::Syntax(number)),
         }
     }
 }
 
-/// The book of a file's bytes, or the first fault.
 #[tactic(auto, unfolding(crate::specs::Books::book_of), using(crate::proofs::Utf8::utf8_tests))]
-pub fn read_book(alloc: Global, bytes: &[u8]) -> Result<Book, BookFault>
+fn book_of(alloc: Global, bytes: &[u8]) -> Result<Book, BookFault>
     ensures exact { Gives is_memory (λ book. book) result (book_of bytes.now) }
-    ensures well_formed { IfOk result IsBook }
 
     // A line's fault is that of the first faulty line: all lines before it were read.
     ensures first_fault { IfErr result (λ fault. OnFalse (is_of_file fault)
@@ -204,4 +306,16 @@ pub fn read_book(alloc: Global, bytes: &[u8]) -> Result<Book, BookFault>
         return Err(BookFault::NoRules);
     }
     Ok(book)
+}
+
+/// The book of a file's bytes, or the first fault.
+pub fn read_book(alloc: Global, bytes: &[u8]) -> Result<Book, BookFault>
+    ensures exact { Gives is_memory (λ book. book) result (book_of bytes.now) }
+    ensures well_formed { IfOk result IsBook }
+
+    // A line's fault is that of the first faulty line: all lines before it were read.
+    ensures first_fault { IfErr result (λ fault. OnFalse (is_of_file fault)
+        (IsFirstFault book_line 1 (lines_of bytes.now) no_lines fault)) }
+{
+    book_of(alloc, bytes)
 }

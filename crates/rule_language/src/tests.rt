@@ -1,11 +1,14 @@
 ghost use Rattle.std.specs.Prelude.{◌≡◌, ◌≤◌, length};
 ghost use Rattle.preorder.specs.Violation.{IsWidth};
 
-use crate::{BookFault, TableFault, cut_line, read_book, read_table};
+use crate::{
+    BookFault, TableFault, copy_book, cut_line, read_book, read_table, write_book, written_fits,
+};
+use preorder::Name;
 use std::alloc::Global;
 use std::test::Fail;
 
-/// The bytes of a book: a head, then so many rules.
+// The bytes of a book: a head, then so many rules.
 fn numbered(alloc: Global, head: &str, count: usize) -> Result<String, Fail> {
     let mut text = String::from_str(alloc, head)?;
     for number in 0..count {
@@ -15,7 +18,7 @@ fn numbered(alloc: Global, head: &str, count: usize) -> Result<String, Fail> {
     Ok(text)
 }
 
-/// The bytes of a table with so many rows.
+// The bytes of a table with so many rows.
 fn rows(alloc: Global, count: usize) -> Result<String, Fail> {
     let mut text = String::new(alloc);
     for number in 0..count {
@@ -25,7 +28,7 @@ fn rows(alloc: Global, count: usize) -> Result<String, Fail> {
     Ok(text)
 }
 
-/// A line of so many bytes, after a head.
+// A line of so many bytes, after a head.
 fn padded(alloc: Global, head: &[u8], byte: u8, len: usize) -> Result<Vec<u8>, Fail> {
     let mut bytes = head.to_vec(alloc)?;
     for _ in head.len()..len {
@@ -43,6 +46,36 @@ fn table_fault(alloc: Global, bytes: &[u8], width: usize) -> Option<TableFault>
 {
     read_table(alloc, bytes, width).err()
 }
+
+// A text with so many copies of one word after it, each behind the joint.
+fn joined(
+    alloc: Global,
+    head: &[u8],
+    word: &[u8],
+    joint: &[u8],
+    count: usize,
+) -> Result<Vec<u8>, Fail> {
+    let mut text = head.to_vec(alloc)?;
+    text.extend_from_slice(word)?;
+    for _ in 1..count {
+        text.extend_from_slice(joint)?;
+        text.extend_from_slice(word)?;
+    }
+    Ok(text)
+}
+
+// A book whose one rule has one part, of which the expression is written in 1,012 bytes: 35 names of 24 bytes, 33 times
+// a sign with its blanks and brackets, and a call of two.
+fn with_long_part(alloc: Global, head: &[u8]) -> Result<Vec<u8>, Fail> {
+    let first = joined(alloc, head, LONG_NAME, b"*", 20)?;
+    let mut text = joined(alloc, first.as_slice(), b",", b"", 1)?;
+    let second = joined(alloc, b"", LONG_NAME, b"+", 15)?;
+    text.extend_from_slice(second.as_slice())?;
+    text.push(b')')?;
+    Ok(text)
+}
+
+const LONG_NAME: &[u8] = b"a23456789012345678901234";
 
 const BOOK: &[u8] = b"# a book\r\n\n\trule  a # the first\r\nrule b_2\n \nsame a b_2\nabove b_2 a";
 
@@ -79,7 +112,7 @@ fn the_order_of_a_book_is_its_closure(rt: HostRuntime) -> Result<(), Fail> {
 
 #[test]
 fn a_book_is_refused_by_its_first_faulty_line(rt: HostRuntime) {
-    let rows: [(&[u8], BookFault); 24] = [
+    let rows: [(&[u8], BookFault); 23] = [
         (b"", BookFault::NoRules),
         (b"\n \t\n\n", BookFault::NoRules),
         (b"# rule a\n#", BookFault::NoRules),
@@ -92,7 +125,6 @@ fn a_book_is_refused_by_its_first_faulty_line(rt: HostRuntime) {
         (b"rule a\r", BookFault::Syntax(1)),
         (b"rule a\rrule b\n", BookFault::Syntax(1)),
         (b"# one\n\nrule a\n#\nrule", BookFault::Syntax(5)),
-        (b"rule a\npart a 1 tick", BookFault::Syntax(2)),
         (b"rule a\nabove a", BookFault::Syntax(2)),
         (b"rule a\nabove a a a", BookFault::Syntax(2)),
         (b"rule a\nabove b 1c", BookFault::Syntax(2)),
@@ -222,4 +254,126 @@ fn lines_are_cut_without_their_comments(rt: HostRuntime) {
         Some((b"a ".as_slice(), b"c".as_slice(), 5))
     );
     assert_eq!(rt; cut_line(b"\n"), Some((b"".as_slice(), b"".as_slice(), 0)));
+}
+
+#[test]
+fn a_book_is_written_and_read_again(rt: HostRuntime) -> Result<(), Fail> {
+    let rows: [(&[u8], &[u8]); 5] = [
+        (b"rule a", b"rule a\n"),
+        (
+            b"rule a\npart a 3 1 - 2 * tick\nfinal a 05 abs(speed)\nrule b\nsame a b",
+            b"rule a\npart a 3 (1 - (2 * tick))\nfinal a 5 abs(speed)\nrule b\nabove a b\nabove b a\n",
+        ),
+        (
+            b"rule a\nrule b\nabove b a\n# late\n part\ta 1 max( 0,speed-13900 ) # mm/s\r\npart b 1000000 - x",
+            b"rule a\npart a 1 max(0, (speed - 13900))\nrule b\npart b 1000000 -x\nabove b a\n",
+        ),
+        (
+            b"rule a\nfinal a 0000001 1\npart a 1 1\nfinal a 1 1",
+            b"rule a\nfinal a 1 1\npart a 1 1\nfinal a 1 1\n",
+        ),
+        (
+            b"rule part\nrule final\nabove part final",
+            b"rule part\nrule final\nabove part final\n",
+        ),
+    ];
+    for (text, written) in rows {
+        let book = read_book(rt.alloc(), text).ok().ok_or("a book")?;
+        let copy = copy_book(rt.alloc(), &book)?;
+        let bytes = write_book(rt.alloc(), &copy)?;
+        assert_eq!(rt; bytes.as_slice(), written);
+        let again = read_book(rt.alloc(), bytes.as_slice())
+            .ok()
+            .ok_or("a book")?;
+        let bytes = write_book(rt.alloc(), &again)?;
+        assert_eq!(rt; bytes.as_slice(), written);
+    }
+    Ok(())
+}
+
+#[test]
+fn a_part_is_refused_by_its_first_fault(rt: HostRuntime) {
+    let rows: [(&[u8], Option<BookFault>); 22] = [
+        (b"rule a\npart a 0 tick", Some(BookFault::BadWeight(2))),
+        (b"rule a\npart a 1 tick", None),
+        (b"rule a\npart a 1000000 tick", None),
+        (
+            b"rule a\nfinal a 1000001 tick",
+            Some(BookFault::BadWeight(2)),
+        ),
+        (
+            b"rule a\npart a 99999999999999999999999 tick",
+            Some(BookFault::BadWeight(2)),
+        ),
+        (b"rule a\npart a 000000000000000000000000000001 tick", None),
+        (b"rule a\npart a 1", Some(BookFault::Syntax(2))),
+        (b"rule a\nfinal a 1 # tick", Some(BookFault::Syntax(2))),
+        (b"rule a\npart a x tick", Some(BookFault::Syntax(2))),
+        (b"rule a\npart a -1 tick", Some(BookFault::Syntax(2))),
+        (b"rule a\npart 1a 1 tick", Some(BookFault::Syntax(2))),
+        (b"rule a\nparts a 1 tick", Some(BookFault::Syntax(2))),
+        (b"rule a\npart b 0 tick +", Some(BookFault::Syntax(2))),
+        (b"rule a\npart b 0 div(tick, 0)", Some(BookFault::Syntax(2))),
+        (b"rule a\npart a 1 min", Some(BookFault::Syntax(2))),
+        (b"rule a\npart a 1 tick)", Some(BookFault::Syntax(2))),
+        (b"rule a\nabove a a tick", Some(BookFault::Syntax(2))),
+        (b"rule a\npart b 0 tick", Some(BookFault::UnknownName(2))),
+        (b"final a 1 tick\nrule a", Some(BookFault::UnknownName(1))),
+        (
+            b"rule a\npart a 1 1\npart a 1 1\npart a 1 1\nfinal a 1 1\npart a 1 1\npart a 1 1\npart a 1 1\nfinal a 1 1",
+            None,
+        ),
+        (
+            b"rule a\npart a 1 1\npart a 1 1\npart a 1 1\nfinal a 1 1\npart a 1 1\npart a 1 1\npart a 1 1\nfinal a 1 1\nfinal a 1 1",
+            Some(BookFault::TooManyParts(10)),
+        ),
+        (
+            b"rule a\npart a 1 1\npart a 1 1\npart a 1 1\nfinal a 1 1\npart a 1 1\npart a 1 1\npart a 1 1\nfinal a 1 1\npart a 0 1",
+            Some(BookFault::BadWeight(10)),
+        ),
+    ];
+    for (text, fault) in rows {
+        assert_eq!(rt; book_fault(rt.alloc(), text), fault);
+    }
+}
+
+#[test]
+fn a_part_fits_its_written_line(rt: HostRuntime) -> Result<(), Fail> {
+    let alloc = rt.alloc();
+    let rows: [(&[u8], Option<BookFault>); 6] = [
+        (b"rule abcd\npart abcd 1 min(", None),
+        (b"rule abcd\npart abcd 0001 min(", None),
+        (b"rule abc\nfinal abc 1 min(", None),
+        (b"rule abcde\npart abcde 0 min(", Some(BookFault::Syntax(2))),
+        (b"rule abcd\nfinal abcd 1 min(", Some(BookFault::Syntax(2))),
+        (b"rule abcd\npart abcd 12 min(", Some(BookFault::Syntax(2))),
+    ];
+    for (head, fault) in rows {
+        let text = with_long_part(alloc, head)?;
+        assert_eq!(rt; book_fault(alloc, text.as_slice()), fault);
+    }
+    let most = joined(alloc, b"rule a\npart a 1 ", b"1", b"+", 33)?;
+    assert_eq!(rt; book_fault(alloc, most.as_slice()), None);
+    let more = joined(alloc, b"rule a\npart a 0 ", b"1", b"+", 34)?;
+    assert_eq!(rt;
+        book_fault(alloc, more.as_slice()),
+        Some(BookFault::Syntax(2))
+    );
+    Ok(())
+}
+
+#[test]
+fn a_part_fits_by_the_name_of_its_rule(rt: HostRuntime) -> Result<(), Fail> {
+    let text = with_long_part(rt.alloc(), b"rule abcd\npart abcd 1 min(")?;
+    let book = read_book(rt.alloc(), text.as_slice()).ok().ok_or("a book")?;
+    let [rule] = book.rules.as_slice() else {
+        return Err(Fail::from("one rule"));
+    };
+    let [part] = rule.parts.as_slice() else {
+        return Err(Fail::from("one part"));
+    };
+    let longer = Name::new(b"abcde").ok_or("a name")?;
+    assert!(rt; written_fits(&rule.name, part));
+    assert!(rt; !written_fits(&longer, part));
+    Ok(())
 }

@@ -31,7 +31,7 @@ pub record AddsLines {X : Type 0} (IsLine : X → List ℕ → Type 0) (items : 
   pub appended : new ≡ old ++ added
 
 abbrev pub no_rule : Rule
-no_rule = record { name = [] }
+no_rule = record { name = []; parts = [] }
 
 -- the name of rule r, counted from 0
 abbrev pub rule_name : List Rule → ℕ → List ℕ

@@ -56,8 +56,13 @@ const THREE: &[u8] = b"x 1 0 0\ny 0 5 0\nz 0 5 1\n";
 
 #[test]
 fn pick_prints_the_rows_that_no_row_beats(rt: HostRuntime) -> Result<(), Fail> {
-    let rows: [(&[u8], &[u8], &[u8]); 8] = [
+    let rows: [(&[u8], &[u8], &[u8]); 9] = [
         (ABOVE, THREE, b"y 0 5 0\n"),
+        (
+            b"rule a\npart a 1 tick\nrule b\nfinal b 2 max(0, speed)\nrule c\nabove a b\n",
+            THREE,
+            b"y 0 5 0\n",
+        ),
         (b"rule a\nrule b\n", b"x 0 1\ny 1 0\n", b"x 0 1\ny 1 0\n"),
         (b"rule a\nrule b\n", b"x 2 2\ny 2 2\n", b"x 2 2\n"),
         (
@@ -115,8 +120,23 @@ fn compare_prints_a_verdict_for_each_pair(rt: HostRuntime) -> Result<(), Fail> {
 
 #[test]
 fn bad_inputs_are_refused_by_name(rt: HostRuntime) -> Result<(), Fail> {
-    let rows: [(&[u8], &[u8], &[u8]); 11] = [
+    let rows: [(&[u8], &[u8], &[u8]); 14] = [
         (b"", b"", b"refused book no-rules\n"),
+        (
+            b"rule a\npart a 0 tick\n",
+            b"",
+            b"refused book bad-weight 2\n",
+        ),
+        (
+            b"rule a\nfinal b 0 tick\n",
+            b"",
+            b"refused book unknown-name 2\n",
+        ),
+        (
+            b"rule a\npart a 1 tick +\n",
+            b"",
+            b"refused book syntax 2\n",
+        ),
         (b"", b"1", b"refused book no-rules\n"),
         (
             b"rule a\nabove a b\n",

@@ -1,17 +1,19 @@
 -- Where two notions of what is above what agree, so do the words on vectors that stand on them.
-use Rattle.std.proofs.Common.{◌≡◌, ℕ, ◌<◌, ◌↔◌, List, [], length, subst, sym, arith}
+use Rattle.std.proofs.Common.{◌≡◌, ℕ, ◌<◌, ◌↔◌, List, subst, sym, arith}
 use Rattle.std.proofs.lemmas.Bool.{and_parts, and_from, not-true, not_from_false, false_from_ne_true, both_ways}
-use Rattle.std.proofs.lemmas.List.Elements.{Contains-get_or}
 use Rattle.std.specs.Prelude.{Contains, IsTrue, not}
 use Rattle.preorder.specs.Preorder.{rules_of, at_least}
 use Rattle.preorder.specs.Statements.{IsClosure}
 use Rattle.preorder.specs.declared.order.Preorder.{Preorder}
-use Rattle.rulebook_order.specs.Front.{vector_at, IsInFront, IsFront}
+use Rattle.rulebook_order.specs.Front.{vector_at, IsInFront, IsFirstInFront, IsFront}
 use Rattle.rulebook_order.specs.NoWorse.{IsExcused, NoWorse, Beats, IsFirstUnexcused}
 use Rattle.rulebook_order.specs.NoWorseBy.{IsAboveBy, NoWorseBy, IsFirstUnexcusedBy, IsVerdictBy, no_worse_by}
 use Rattle.rulebook_order.specs.NoWorseUnder.{IsAbove, NoWorseUnder, IsFirstUnexcusedUnder, IsVerdictUnder}
-use Rattle.rulebook_order.specs.PairLaws.{no_worse_by-words}
+use Rattle.rulebook_order.specs.laws.PairLaws.{no_worse_by-words}
 use Rattle.rulebook_order.specs.PairOrder.{order_of}
+use Rattle.rulebook_order.specs.Answer.{IsAnswerList}
+use Rattle.rulebook_order.specs.Graph.{Graph, IsAttained}
+use Rattle.rulebook_order.specs.VectorOrder.{Holds}
 use Rattle.rulebook_order.specs.Verdict.{IsVerdict}
 use Rattle.rulebook_order.specs.declared.pair.PairOrder.{PairOrder}
 use Rattle.rulebook_order.specs.declared.verdict.Verdict.{Verdict}
@@ -77,25 +79,28 @@ module _ (size : ℕ) (A B : ℕ → ℕ → Type 0) (agree : (q r : ℕ) → q 
     λ h. ((IsFirstUnexcused-agree x y r).1 h.0, (IsFirstUnexcused-agree y x q).1 h.1),
   )
 
+-- two relations that agree on the vectors that have a property
+module _ (P Q : List ℕ → List ℕ → Type 0) (Has : List ℕ → Type 0) (agree : (x y : List ℕ) → Has x → Has y → P x y ↔ Q x y) where
+  -- leave the same ones in the front
+  pub IsInFront-agree : (v : List ℕ) → IsInFront P Has v ↔ IsInFront Q Has v
+  IsInFront-agree v = (
+    λ f. record { has = f.has; unbeaten = λ w h b. f.unbeaten w h ((Beats-agree P Q w v (agree w v h f.has) (agree v w f.has h)).1 b) },
+    λ f. record { has = f.has; unbeaten = λ w h b. f.unbeaten w h ((Beats-agree P Q w v (agree w v h f.has) (agree v w f.has h)).0 b) },
+  )
+
 -- two relations that agree on the vectors of a list
 module _ (P Q : List ℕ → List ℕ → Type 0) (vectors : List (List ℕ)) (agree : (x y : List ℕ) → Contains vectors x → Contains vectors y → P x y ↔ Q x y) where
-  at : (i : ℕ) → i < length vectors → Contains vectors (vector_at vectors i)
-  at i h = Contains-get_or vectors i [] h
-
-  beats_at : (i j : ℕ) → i < length vectors → j < length vectors → Beats P (vector_at vectors i) (vector_at vectors j) ↔ Beats Q (vector_at vectors i) (vector_at vectors j)
-  beats_at i j h k = Beats-agree P Q _ _ (agree _ _ (at i h) (at j k)) (agree _ _ (at j k) (at i h))
-
-  in_front : (i : ℕ) → IsInFront P vectors i ↔ IsInFront Q vectors i
-  in_front i = (
-    λ f. record { here = f.here; unbeaten = λ j h b. f.unbeaten j h ((beats_at j i h f.here).1 b); first = f.first },
-    λ f. record { here = f.here; unbeaten = λ j h b. f.unbeaten j h ((beats_at j i h f.here).0 b); first = f.first },
+  first_in_front : (i : ℕ) → IsFirstInFront P vectors i ↔ IsFirstInFront Q vectors i
+  first_in_front i = (
+    λ f. record { here = f.here; in_front = (IsInFront-agree P Q (Contains vectors) agree (vector_at vectors i)).0 f.in_front; first = f.first },
+    λ f. record { here = f.here; in_front = (IsInFront-agree P Q (Contains vectors) agree (vector_at vectors i)).1 f.in_front; first = f.first },
   )
 
   -- have the same front
   pub IsFront-agree : (places : List ℕ) → IsFront P vectors places → IsFront Q vectors places
   IsFront-agree places front = record {
     rising = front.rising;
-    exact = λ i. (λ h. (in_front i).0 ((front.exact i).0 h), λ h. (front.exact i).1 ((in_front i).1 h));
+    exact = λ i. (λ h. (first_in_front i).0 ((front.exact i).0 h), λ h. (front.exact i).1 ((first_in_front i).1 h));
   }
 
 -- a pre-order that is the closure of statements
@@ -127,9 +132,24 @@ module _ (order : Preorder) (statements : List (ℕ × ℕ)) (size : ℕ) (is_si
   )
 
   -- a front by the test is the front under the statements
-  pub IsFront-statements : (vectors : List (List ℕ)) (places : List ℕ) → IsFront (λ x y. IsTrue (no_worse_by order x y)) vectors places → IsFront (NoWorseUnder statements size) vectors places
-  IsFront-statements vectors places = IsFront-agree (λ x y. IsTrue (no_worse_by order x y)) (NoWorseUnder statements size) vectors (λ x y h k. no_worse_by-statements x y) places
+  pub IsFront-statements : (vectors : List (List ℕ)) (places : List ℕ) → IsFront (Holds (no_worse_by order)) vectors places → IsFront (NoWorseUnder statements size) vectors places
+  IsFront-statements vectors places = IsFront-agree (Holds (no_worse_by order)) (NoWorseUnder statements size) vectors (λ x y h k. no_worse_by-statements x y) places
 
   -- a front by the order of pairs on it is the front under the statements
-  pub IsFront-pairs : (pairs : PairOrder) → order_of pairs ≡ order → (vectors : List (List ℕ)) (places : List ℕ) → IsFront (λ x y. IsTrue (no_worse_by (order_of pairs) x y)) vectors places → IsFront (NoWorseUnder statements size) vectors places
-  IsFront-pairs pairs is vectors places front = IsFront-statements vectors places (subst (λ o. IsFront (λ x y. IsTrue (no_worse_by o x y)) vectors places) is front)
+  pub IsFront-pairs : (pairs : PairOrder) → order_of pairs ≡ order → (vectors : List (List ℕ)) (places : List ℕ) → IsFront (Holds (no_worse_by (order_of pairs))) vectors places → IsFront (NoWorseUnder statements size) vectors places
+  IsFront-pairs pairs is vectors places front = IsFront-statements vectors places (subst (λ o. IsFront (Holds (no_worse_by o)) vectors places) is front)
+
+-- two relations that agree on all vectors give one answer
+module _ (P Q : List ℕ → List ℕ → Type 0) (agree : (x y : List ℕ) → P x y ↔ Q x y) where
+  pub IsAnswerList-agree : {S : Type 0} (g : Graph S) (vectors : List (List ℕ)) → IsAnswerList g P vectors → IsAnswerList g Q vectors
+  IsAnswerList-agree g vectors answer = record {
+    exact = λ v. (
+      λ listed. (IsInFront-agree P Q (IsAttained g) (λ x y h k. agree x y) v).0 ((answer.exact v).0 listed),
+      λ f. (answer.exact v).1 ((IsInFront-agree P Q (IsAttained g) (λ x y h k. agree x y) v).1 f),
+    );
+    once = answer.once;
+  }
+
+-- the answer by the test of a pre-order is the answer by its words
+pub IsAnswerList-words : {S : Type 0} (g : Graph S) (order : Preorder) (vectors : List (List ℕ)) → IsAnswerList g (Holds (no_worse_by order)) vectors → IsAnswerList g (NoWorseBy order) vectors
+IsAnswerList-words g order vectors answer = IsAnswerList-agree (Holds (no_worse_by order)) (NoWorseBy order) (no_worse_by-words order) g vectors answer
