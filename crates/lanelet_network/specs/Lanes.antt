@@ -1,6 +1,7 @@
 -- CommonRoad's lanelets as a network keeps them. What a lanelet holds and where it leads is this project's own.
-use Rattle.std.specs.Prelude.{◌≡◌, ℕ, Bool, not, ◌&&◌, ◌||◌, ◌==◌, ℤ, pos, int_lt, List, ◌++◌, map, reverse, count_by, All}
+use Rattle.std.specs.Prelude.{◌≡◌, ℕ, Bool, not, ◌&&◌, ◌||◌, ◌==◌, ℤ, pos, int_lt, List, ◌++◌, map, reverse, count_by, slice_get, false, All}
 use Rattle.std.specs.List.{list_all, list_any}
+use Rattle.std.specs.Option.{option_map_or}
 use Rattle.fixed_geometry.specs.declared.point.Point.{Point}
 use Rattle.fixed_geometry.specs.Polygon.{point_in}
 use Rattle.fixed_geometry.specs.Turning.{direction}
@@ -53,6 +54,10 @@ pub record IsOfLanelet (lanes : List Lane) (id : ℕ) (fact : Lane → Type 0) :
 -- the lanelet's closed polygon holds the point
 abbrev pub holds : Point → Lane → Bool
 holds p lane = point_in p lane.corners
+
+-- the lanelet at the index holds the point
+unfoldable pub holds_at : List Lane → ℕ → Point → Bool
+holds_at lanes index p = option_map_or (holds p) (slice_get lanes index) false
 
 -- how many lanelets hold the point
 abbrev pub count_at : List Lane → Point → ℕ

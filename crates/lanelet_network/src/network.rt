@@ -1,8 +1,8 @@
-ghost use Rattle.std.specs.Prelude.{◌≡◌, ◌<◌, ◌≤◌, ◌*◌, ◌^◌, length, slice_index, unsigned_abs, IfOk, IfErr};
+ghost use Rattle.std.specs.Prelude.{◌≡◌, ◌<◌, ◌≤◌, ◌*◌, ◌^◌, length, slice_index, unsigned_abs, IfOk, IfErr, Some, None};
 ghost use Rattle.std.specs.List.{position, list_any, list_all};
 ghost use Rattle.fixed_geometry.specs.Plane.{IsInRange, IsWithin};
 ghost use Rattle.scenario_model.specs.Scenario.{IsScenario, lanelet_ids};
-ghost use Rattle.lanelet_network.specs.Lanes.{lanes_of, lane_ids, has_id, IsUnknown, IsOfLanelet, holds as does_hold, count_at as count_of, direction_at as direction_of, is_against, opposes_if_holding as does_oppose_if_holding};
+ghost use Rattle.lanelet_network.specs.Lanes.{lanes_of, lane_ids, has_id, IsUnknown, IsOfLanelet, holds as does_hold, holds_at as does_hold_at, count_at as count_of, direction_at as direction_of, is_against, opposes_if_holding as does_oppose_if_holding};
 
 use crate::fault::NetworkFault;
 use crate::lane::Lane;
@@ -45,6 +45,14 @@ impl Network {
         Ok(Network { lanes })
     }
 
+    /// The number of lanelets, which is at most 4,000.
+    pub fn count(&self) -> usize
+        ensures value { result ≡ length self.now }
+        ensures few { result ≤ 4000 }
+    {
+        self.lanes.len()
+    }
+
     // The place of the first lanelet with the id.
     fn position(&self, id: u64) -> Option<usize>
         ensures value { result ≡ position (has_id id) self.now }
@@ -57,8 +65,10 @@ impl Network {
     fn place(&self, id: u64) -> Result<usize, NetworkFault>
         ensures within { IfOk result (λ place. place < length self.now) }
         ensures id { IfOk result (λ place. slice_index (lane_ids self.now) place ≡ id) }
+        ensures first { IfOk result (λ place. position (has_id id) self.now ≡ Some place) }
         ensures few { length self.now ≤ 4000 }
         ensures unknown { IfErr result (IsUnknown self.now id) }
+        ensures nowhere { IfErr result (λ _. position (has_id id) self.now ≡ None) }
     {
         match self.position(id) {
             Some(place) => Ok(place),
@@ -109,7 +119,9 @@ impl Network {
         ensures within { IfOk result (λ index. index < length self.now) }
         ensures below { IfOk result (λ index. index < 4000) }
         ensures value { IfOk result (λ index. slice_index (lane_ids self.now) index ≡ id) }
+        ensures first { IfOk result (λ index. position (has_id id) self.now ≡ Some index) }
         ensures unknown { IfErr result (IsUnknown self.now id) }
+        ensures nowhere { IfErr result (λ _. position (has_id id) self.now ≡ None) }
     {
         let place = self.place(id)?;
         Ok(place as u32)
@@ -124,10 +136,22 @@ impl Network {
         lane.id()
     }
 
-    // Whether some lanelet holds the point.
-    fn is_held(&self, point: Point) -> bool
+    /// Whether there is a lanelet at the index, and its polygon holds the point.
+    #[tactic(auto, unfolding(crate::specs::Lanes::holds_at))]
+    pub fn holds_at(&self, index: u32, point: Point) -> bool
         requires { IsInRange point }
-        ensures { result ≡ list_any (does_hold point) self.now }
+        ensures value { result ≡ does_hold_at self.now index point }
+    {
+        match self.lanes.get(index as usize) {
+            Some(lane) => lane.holds(point),
+            None => false,
+        }
+    }
+
+    /// Whether some lanelet holds the point.
+    pub fn is_held(&self, point: Point) -> bool
+        requires { IsInRange point }
+        ensures value { result ≡ list_any (does_hold point) self.now }
     {
         self.lanes.iter().any(|lane| lane.holds(point))
     }

@@ -1,12 +1,16 @@
 -- What a `Traffic` is seen as: for each obstacle its states in order, each with the shapes placed there.
-use Rattle.std.specs.Prelude.{◌≡◌, ℕ, if◌then◌else◌, ◌==◌, List, map, Option, find, slice_get}
+use Rattle.std.specs.Prelude.{◌≡◌, ℕ, ℤ, if◌then◌else◌, ◌==◌, List, map, count_by, Option, find, slice_get, option_and_then}
+use Rattle.std.specs.List.{flat_map}
 use Rattle.std.specs.Option.{option_map}
 use Rattle.fixed_geometry.specs.declared.point.Point.{Point}
+use Rattle.fixed_geometry.specs.declared.point.Box2.{Box2}
+use Rattle.fixed_geometry.specs.Turning.{direction}
 use Rattle.scenario_model.specs.declared.obstacle.Obstacle.{Obstacle}
 use Rattle.scenario_model.specs.declared.obstacle.Pose.{Pose}
 use Rattle.scenario_model.specs.declared.obstacle.Shape.{Shape}
 use Rattle.moving_obstacles.specs.declared.track.Placement.{Placement}
 use Rattle.moving_obstacles.specs.declared.track.Track.{Track}
+use Rattle.moving_obstacles.specs.Nearness.{is_met, gaps, distances, least}
 use Rattle.moving_obstacles.specs.Placing.{placed}
 
 unfoldable pub placement_of : List Shape → Pose → Placement
@@ -33,3 +37,22 @@ pose_in track tick = option_map (λ (p : Placement). p.pose) (placement_in track
 
 unfoldable pub shapes_in : Track → ℕ → Option (List (List Point))
 shapes_in track tick = option_map (λ (p : Placement). p.shapes) (placement_in track tick)
+
+-- ---- what a traffic answers, by its tracks
+
+-- the shapes of the track at the index, placed where it is at the tick
+unfoldable pub occupancy_in : List Track → ℕ → ℕ → Option (List (List Point))
+occupancy_in tracks index tick = option_and_then (λ (t : Track). shapes_in t tick) (slice_get tracks index)
+
+-- how many tracks meet the polygon at the tick
+unfoldable pub meeting_in : List Track → List Point → ℕ → ℕ
+meeting_in tracks ego tick = count_by (λ (t : Track). is_met ego (shapes_in t tick)) tracks
+
+-- the least box gap to a shape that is placed at the tick
+unfoldable pub nearest_gap_in : List Track → Box2 → ℕ → ℤ
+nearest_gap_in tracks ego tick = least (flat_map (λ (t : Track). gaps ego (shapes_in t tick)) tracks)
+
+-- the least distance to a track that is ahead at the tick
+unfoldable pub headway_in : List Track → Point → ℤ → ℤ → ℕ → ℤ
+headway_in tracks position heading width tick =
+    least (flat_map (λ (t : Track). distances position (direction heading) width (pose_in t tick)) tracks)

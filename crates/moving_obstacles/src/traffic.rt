@@ -7,7 +7,7 @@ ghost use Rattle.fixed_geometry.specs.Polygon.{IsCornerList};
 ghost use Rattle.scenario_model.specs.Scenario.{IsObstacle, IsScenario};
 ghost use Rattle.moving_obstacles.specs.Occupancy.{occupancy};
 ghost use Rattle.moving_obstacles.specs.Nearness.{is_met, gaps, distances, least, IsLeast, meeting, all_gaps, nearest_gap, all_distances, headway};
-ghost use Rattle.moving_obstacles.specs.Tracks.{track_of, IsTrafficOf, ForObstacles, shapes_in, pose_in};
+ghost use Rattle.moving_obstacles.specs.Tracks.{track_of, IsTrafficOf, ForObstacles, shapes_in, pose_in, occupancy_in, meeting_in, nearest_gap_in, headway_in};
 
 use crate::ahead::least_distance;
 use crate::track::Track;
@@ -112,8 +112,9 @@ impl Traffic {
 
     /// The number of obstacles, those that stand among them.
     pub fn count(&self) -> usize
-        ensures len { result ≡ length self.now }
-        ensures value { ForObstacles self.now (λ obstacles. result ≡ length obstacles) }
+        ensures value { result ≡ length self.now }
+        ensures few { result ≤ 500 }
+        ensures all { ForObstacles self.now (λ obstacles. result ≡ length obstacles) }
     {
         self.tracks.as_slice().len()
     }
@@ -121,9 +122,11 @@ impl Traffic {
     /// The shapes of the obstacle at the index, placed where it is at the tick. None where it is nowhere then.
     ///
     /// The index is below the count.
+    #[tactic(auto, unfolding(crate::specs::Tracks::occupancy_in))]
     pub fn occupancy(&self, index: usize, tick: u32) -> Option<&[Polygon]>
         requires { index < length self.now }
-        ensures { ForObstacles self.now (λ obstacles.
+        ensures value { option_copied result ≡ occupancy_in self.now index tick }
+        ensures all { ForObstacles self.now (λ obstacles.
             option_copied result ≡ option_and_then (λ o. occupancy o tick) (slice_get obstacles index)) }
     {
         let tracks = self.tracks.as_slice();
@@ -133,9 +136,11 @@ impl Traffic {
     /// How many obstacles have a shape that meets the polygon at the tick.
     ///
     /// The corners are 3 to 4,096 points in range.
+    #[tactic(auto, unfolding(crate::specs::Tracks::meeting_in))]
     pub fn meeting(&self, ego: &[Point], tick: u32) -> u32
         requires { IsCornerList ego.now }
-        ensures value { ForObstacles self.now (λ obstacles. result ≡ meeting obstacles ego.now tick) }
+        ensures value { result ≡ meeting_in self.now ego.now tick }
+        ensures all { ForObstacles self.now (λ obstacles. result ≡ meeting obstacles ego.now tick) }
         ensures most { result ≤ 500 }
     {
         count_met(self.tracks.as_slice(), ego, tick) as u32
@@ -144,9 +149,11 @@ impl Traffic {
     /// The least box gap to a shape of an obstacle at the tick, in 0.1 mm: 10^7 at most, and where no obstacle is there.
     ///
     /// Both corners of the box are in range.
+    #[tactic(auto, unfolding(crate::specs::Tracks::nearest_gap_in))]
     pub fn nearest_gap(&self, ego: Box2, tick: u32) -> i64
         requires { IsBoxInRange ego }
-        ensures value { ForObstacles self.now (λ obstacles. result ≡ nearest_gap obstacles ego tick) }
+        ensures value { result ≡ nearest_gap_in self.now ego tick }
+        ensures all { ForObstacles self.now (λ obstacles. result ≡ nearest_gap obstacles ego tick) }
         ensures least { ForObstacles self.now (λ obstacles. IsLeast (all_gaps obstacles ego tick) result) }
         ensures low { pos 0 ≤ℤ result }
         ensures high { result ≤ℤ pos 10_000_000 }
@@ -158,9 +165,11 @@ impl Traffic {
     ///
     /// It is ahead where it is in front of the position along the heading, and at most the width to a side.
     /// The heading is in microradians, at most 4 * 10^9 in size, and the width in 0.1 mm.
+    #[tactic(auto, unfolding(crate::specs::Tracks::headway_in))]
     pub fn headway(&self, position: Point, heading: i64, width: i64, tick: u32) -> i64
         requires { unsigned_abs heading ≤ 4 * 10 ^ 9 }
-        ensures value { ForObstacles self.now (λ obstacles. result ≡ headway obstacles position heading width tick) }
+        ensures value { result ≡ headway_in self.now position heading width tick }
+        ensures all { ForObstacles self.now (λ obstacles. result ≡ headway obstacles position heading width tick) }
         ensures least { ForObstacles self.now
             (λ obstacles. IsLeast (all_distances obstacles position heading width tick) result) }
         ensures low { pos 0 ≤ℤ result }

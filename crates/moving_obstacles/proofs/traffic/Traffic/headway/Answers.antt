@@ -9,8 +9,8 @@ use Rattle.moving_obstacles.proofs.Same.{headway_same}
 use Rattle.moving_obstacles.proofs.Leasts.{headway_is}
 use Rattle.moving_obstacles.proofs.traffic.Traffic.headway.Goals as goal
 
-pub returns-clause-value : goal.returns-clause-value
-returns-clause-value c = λ obstacles e.
+pub returns-clause-all : goal.returns-clause-all
+returns-clause-all c = λ obstacles e.
     let fits : FitsSigned w64 c.least_distance_of_all.result = search rules in
     let width : FitsSigned w64 c.args.width = c.ranges.width in
     let heading : FitsSigned w64 c.args.heading = c.ranges.heading in

@@ -3,8 +3,8 @@ use Rattle.moving_obstacles.proofs.Same.{nearest_gap_same}
 use Rattle.moving_obstacles.proofs.Leasts.{nearest_gap_is}
 use Rattle.moving_obstacles.proofs.traffic.Traffic.nearest_gap.Goals as goal
 
-pub returns-clause-value : goal.returns-clause-value
-returns-clause-value c = λ obstacles e.
+pub returns-clause-all : goal.returns-clause-all
+returns-clause-all c = λ obstacles e.
     let fits : FitsSigned w64 c.least_gap_of_all.result = search rules in
     simp to_z-of_z (c.least_gap_of_all.ensures.value ∙ nearest_gap_same obstacles c.as_slice.result.now c.args.ego c.args.tick (c.as_slice.ensures ∙ c.self.view_is ∙ e))
 

@@ -1,0 +1,14 @@
+pub mod Added
+pub mod Kept
+pub mod LostPairs
+pub mod Merged
+pub mod Parts
+pub mod Placed
+pub mod Preferences
+pub mod Refusals
+pub mod Shares
+pub mod Shown
+pub mod Statements
+pub mod Summands
+pub mod Trees
+pub mod Witnesses

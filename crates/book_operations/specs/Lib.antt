@@ -1,0 +1,9 @@
+pub mod Aggregation
+pub mod Derivation
+pub mod First
+pub mod Images
+pub mod Kinds
+pub mod Same
+pub mod Summing
+pub mod SumBelow
+pub mod Tests

@@ -1,0 +1,4 @@
+pub mod Answers
+pub mod Failing
+pub mod GoodCertificate
+pub mod Labels

@@ -1,0 +1,16 @@
+pub mod Faults
+pub mod Lattice
+pub mod Documents
+pub mod Tables
+pub mod Classes
+pub mod Maneuvers
+pub mod Lattices
+pub mod LatticeOf
+pub mod Starts
+pub mod Scenes
+pub mod Driving
+pub mod Goals
+pub mod Regions
+pub mod Moves
+pub mod SceneGraphs
+pub mod States

@@ -1,0 +1,4 @@
+pub mod Fan
+pub mod LastFirst
+pub mod Pairs
+pub mod Table

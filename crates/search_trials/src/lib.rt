@@ -1,0 +1,9 @@
+//! The search and the check of what it gives, run on orders and graphs of its own.
+#![tactic(auto)]
+
+pub mod fan;
+pub mod last_first;
+pub mod place;
+pub mod table;
+#[cfg(test)]
+mod tests;

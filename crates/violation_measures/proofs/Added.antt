@@ -1,0 +1,53 @@
+-- A vector to which numbers are added one after the other.
+use Rattle.std.proofs.Common.{◌≡◌, ℕ, zero, suc, ◌+◌, ◌*◌, ◌<◌, ◌≤◌, ◌^◌, List, [], ◌∷◌, length, get_or, refl, sym, ap, ◌∙◌, arith}
+use Rattle.std.specs.Prelude.{All, slice_index, slice_set, replicate}
+use Rattle.rulebook_order.specs.Sums.{sums}
+use Rattle.rulebook_order.specs.StepGraph.{HasRoom}
+
+-- the first numbers are added already
+abbrev pub added : ℕ → List ℕ → List ℕ → List ℕ
+added zero xs ys = xs
+added (suc i) [] ys = []
+added (suc i) (x ∷ xs) [] = x ∷ xs
+added (suc i) (x ∷ xs) (y ∷ ys) = (x + y) ∷ added i xs ys
+
+pub length_added : (i : ℕ) (xs ys : List ℕ) → length (added i xs ys) ≡ length xs
+length_added zero xs ys = refl
+length_added (suc i) [] ys = refl
+length_added (suc i) (x ∷ xs) [] = refl
+length_added (suc i) (x ∷ xs) (y ∷ ys) = ap suc (length_added i xs ys)
+
+-- those from the place on are as they were
+pub added_there : (i : ℕ) (xs ys : List ℕ) → slice_index (added i xs ys) i ≡ slice_index xs i
+added_there zero xs ys = refl
+added_there (suc i) [] ys = refl
+added_there (suc i) (x ∷ xs) [] = refl
+added_there (suc i) (x ∷ xs) (y ∷ ys) = added_there i xs ys
+
+pub added_next : (i : ℕ) (xs ys : List ℕ) → i < length xs → i < length ys → slice_set (added i xs ys) i (slice_index xs i + slice_index ys i) ≡ added (suc i) xs ys
+added_next zero [] ys h k = absurd (omega arith)
+added_next zero (x ∷ xs) [] h k = absurd (omega arith)
+added_next zero (x ∷ xs) (y ∷ ys) h k = refl
+added_next (suc i) [] ys h k = absurd (omega arith)
+added_next (suc i) (x ∷ xs) [] h k = absurd (omega arith)
+added_next (suc i) (x ∷ xs) (y ∷ ys) h k = ap (λ rest. (x + y) ∷ rest) (added_next i xs ys (omega arith) (omega arith))
+
+pub added_all : (i : ℕ) (xs ys : List ℕ) → length xs ≡ length ys → length xs ≤ i → added i xs ys ≡ sums xs ys
+added_all zero [] ys e h = refl
+added_all zero (x ∷ xs) ys e h = absurd (omega arith)
+added_all (suc i) [] ys e h = refl
+added_all (suc i) (x ∷ xs) [] e h = absurd (omega arith)
+added_all (suc i) (x ∷ xs) (y ∷ ys) e h = ap (λ rest. (x + y) ∷ rest) (added_all i xs ys (omega arith) (omega arith))
+
+-- one number more
+pub added_one : (out old amounts new : List ℕ) (i amount : ℕ) → out ≡ added i old amounts → i < length old → i < length amounts → amount ≡ slice_index amounts i
+    → new ≡ slice_set out i (slice_index out i + amount) → new ≡ added (i + 1) old amounts
+added_one out old amounts new i amount before within inside is e =
+    let next : suc i ≡ i + 1 = omega arith in
+    e ∙ (λ j. slice_set (before j) i (slice_index (before j) i + is j)) ∙ ap (λ (n : ℕ). slice_set (added i old amounts) i (n + slice_index amounts i)) (added_there i old amounts)
+    ∙ added_next i old amounts within inside ∙ ap (λ (n : ℕ). added n old amounts) next
+
+pub room_at : (out old amounts : List ℕ) (i limit amount : ℕ) → HasRoom limit old → out ≡ added i old amounts → i < length old → amount ≤ limit → slice_index out i + amount < 2 ^ 64
+room_at out old amounts i limit amount room before within small =
+    let here : slice_index out i ≡ slice_index old i = ap (λ (xs : List ℕ). slice_index xs i) before ∙ added_there i old amounts in
+    omega (arith, here, room i 0 within, small)

@@ -1,0 +1,11 @@
+pub mod Choices
+pub mod Exact
+pub mod Lies
+pub mod Products
+pub mod Sizes
+pub mod Within
+pub mod Alike
+pub mod VectorLaws
+pub mod FirstFault
+pub mod Kept
+pub mod Added

@@ -1,0 +1,9 @@
+use Rattle.std.proofs.Common.{◌≡◌, ◌≤◌, ◌*◌, ◌^◌, take}
+use Rattle.violation_measures.specs.Amounts.{end_value}
+use Rattle.violation_measures.specs.Sources.{at_step}
+use Rattle.violation_measures.proofs.amount.end_value.Given as goal
+
+abbrev pub invariant-loop-part : goal.invariant-loop-part
+invariant-loop-part g l =
+    (l.sum ≡ end_value (at_step (g.S.FeatureSource.features l.source) l.step) (take l.part-index l.parts))
+    × (l.sum ≤ l.part-index * 10 ^ 15)

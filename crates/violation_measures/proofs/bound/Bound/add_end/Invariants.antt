@@ -1,0 +1,7 @@
+use Rattle.std.proofs.Common.{◌≡◌, ◌≤◌, length}
+use Rattle.violation_measures.specs.Vectors.{end_vector}
+use Rattle.violation_measures.proofs.Added.{added}
+use Rattle.violation_measures.proofs.bound.Bound.add_end.Given as goal
+
+abbrev pub invariant-loop-i : goal.invariant-loop-i
+invariant-loop-i g l = l.out ≡ added l.i l.initial.out (end_vector (g.S.FeatureSource.features l.source) l.self l.step)

@@ -1,0 +1,33 @@
+-- The source of the tests: one feature, with bounds 0 to 1.
+use Rattle.std.proofs.Common.{◌≡◌, ℕ, ℤ, pos, ◌≤ℤ◌, Bool, true, false, cond, ◌&&◌, ◌==◌, ◌%◌, List, Option, Some, None, arith}
+use Rattle.std.specs.Prelude.{codes, is_none}
+use Rattle.std.specs.Str.{bytes_eq}
+use Rattle.std.proofs.lemmas.Int.{ints}
+use Rattle.expressions.specs.declared.tree.Argument.{Argument}
+use Rattle.violation_measures.specs.Intervals.{IsIn, from_to}
+use Rattle.violation_measures.specs.Sources.{Features, AreSound}
+use Rattle.violation_measures.specs.declared.step.Step.{Step}
+
+-- whether a lamp is lit at a tick
+abbrev pub lit : ℕ → ℤ
+lit tick = cond (tick % 2 == 1) (pos 1) (pos 0)
+
+-- `lit`, with the number 7
+abbrev pub lamp : Features
+lamp = record {
+  find = λ name argument. cond (bytes_eq name (codes "lit") && is_none argument) (Some 7) None;
+  bounds = λ n. from_to (pos 0) (pos 1);
+  value = λ n step. lit step.tick;
+}
+
+lit_within : (b : Bool) → IsIn (from_to (pos 0) (pos 1)) (cond b (pos 1) (pos 0))
+lit_within true = record { above = omega (arith, ints); below = omega (arith, ints) }
+lit_within false = record { above = omega (arith, ints); below = omega (arith, ints) }
+
+pub lamp_sound : AreSound lamp
+lamp_sound = record {
+  least = λ n known. omega (arith, ints);
+  ordered = λ n known. omega (arith, ints);
+  most = λ n known. omega (arith, ints);
+  within = λ n step known is. lit_within (step.tick % 2 == 1);
+}

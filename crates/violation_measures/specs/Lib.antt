@@ -1,0 +1,16 @@
+pub mod Amounts
+pub mod Binding
+pub mod Bounded
+pub mod Checked
+pub mod Intervals
+pub mod Lamps
+pub mod Ranges
+pub mod SceneFacts
+pub mod SceneLaws
+pub mod SceneSources
+pub mod Scenes
+pub mod Sources
+pub mod Steps
+pub mod TableLaws
+pub mod Values
+pub mod Vectors

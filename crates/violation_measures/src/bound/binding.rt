@@ -1,0 +1,75 @@
+ghost use Rattle.std.specs.Prelude.{◌≡◌, IfOk, IfErr, All};
+ghost use Rattle.rule_language.specs.Books.{IsBook};
+ghost use Rattle.violation_measures.specs.Binding.{MayBind, RuleMayBind, IsBookPart, IsBookRule, IsFaultOfPart, IsFaultOfParts, IsFaultOfRule, IsFaultOf, IsBoundTo};
+
+use super::Bound;
+use crate::bind_fault::BindFault;
+use crate::interval::are_known;
+use crate::range::range_of;
+use crate::source::FeatureSource;
+use rule_language::{Book, Part, Rule, copy_book};
+use std::alloc::Global;
+
+// First for unknown features, then for range.
+fn test_part<S: FeatureSource>(source: &S, number: usize, part: &Part) -> Result<(), BindFault>
+    requires { IsBookPart part.now }
+    ensures ok { IfOk result (λ _. MayBind (S.features source.now) part.now) }
+    ensures fault { IfErr result (IsFaultOfPart (S.features source.now) number part.now) }
+{
+    if !are_known(source, &part.expr) {
+        return Err(BindFault::UnknownFeature(number));
+    }
+    match range_of(source, &part.expr) {
+        Some(_) => Ok(()),
+        None => Err(BindFault::RangeTooLarge(number)),
+    }
+}
+
+fn test_parts<S: FeatureSource>(source: &S, number: usize, parts: &[Part]) -> Result<(), BindFault>
+    requires { All IsBookPart parts.now }
+    ensures ok { IfOk result (λ _. All (MayBind (S.features source.now)) parts.now) }
+    ensures fault { IfErr result (IsFaultOfParts (S.features source.now) number parts.now) }
+{
+    for part in parts {
+        test_part(source, number, part)?;
+    }
+    Ok(())
+}
+
+fn test_rule<S: FeatureSource>(source: &S, number: usize, rule: &Rule) -> Result<(), BindFault>
+    requires { IsBookRule rule.now }
+    ensures ok { IfOk result (λ _. RuleMayBind (S.features source.now) rule.now) }
+    ensures fault { IfErr result (IsFaultOfRule (S.features source.now) number rule.now) }
+{
+    let parts = rule.parts.as_slice();
+    if parts.is_empty() {
+        return Err(BindFault::BareRule(number));
+    }
+    test_parts(source, number, parts)
+}
+
+fn test_rules<S: FeatureSource>(source: &S, rules: &[Rule]) -> Result<(), BindFault>
+    requires { All IsBookRule rules.now }
+    ensures ok { IfOk result (λ _. All (RuleMayBind (S.features source.now)) rules.now) }
+    ensures fault { IfErr result (IsFaultOf (S.features source.now) rules.now) }
+{
+    for number in 0..rules.len() {
+        test_rule(source, number, &rules[number])?;
+    }
+    Ok(())
+}
+
+/// The book, bound to the source: each of its rules has a part, the source knows every feature, and no interval of a subexpression passes 10^18 in size.
+///
+/// Rules are tried in order, a rule's parts in order, each part first for unknown features and then for range.
+pub fn bind<S: FeatureSource>(alloc: Global, book: &Book, source: &S) -> Result<Bound, BindFault>
+    requires { IsBook book.now }
+    ensures book { IfOk result (λ bound. bound.book ≡ book.now) }
+    ensures bound { IfOk result (IsBoundTo (S.features source.now)) }
+    ensures fault { IfErr result (IsFaultOf (S.features source.now) book.now.rules) }
+{
+    test_rules(source, book.rules.as_slice())?;
+    Ok(Bound {
+        book: copy_book(alloc, book)?,
+    })
+}

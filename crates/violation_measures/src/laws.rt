@@ -1,0 +1,31 @@
+ghost use Rattle.std.specs.Prelude.{◌≡◌, [], ◌∷◌, ◌++◌, List, replicate};
+ghost use Rattle.preorder.specs.Violation.{IsWidth};
+ghost use Rattle.rulebook_order.specs.Sums.{sums};
+ghost use Rattle.violation_measures.specs.Binding.{IsBoundTo};
+ghost use Rattle.violation_measures.specs.Sources.{Features, AreAlike};
+ghost use Rattle.violation_measures.specs.Vectors.{width, step_vector, end_vector, run, trajectory_vector, IsUpTo};
+ghost use Rattle.violation_measures.specs.declared.bound.Bound.{Bound};
+ghost use Rattle.violation_measures.specs.declared.step.Step.{Step};
+
+use crate::bound::MAX_AMOUNT;
+
+/// A source that finds what the one bound finds, and has its bounds, can be asked in its place. Its values may differ.
+pub fn bound_to_all_alike()
+    ensures { (a b : Features) (bound : Bound) → AreAlike a b → IsBoundTo a bound → IsBoundTo b bound }
+{}
+
+/// A bound has 1 to 32 rules. What a step and what an end adds has a number for each, at most `MAX_AMOUNT`.
+pub fn vectors_are_small()
+    ensures width { (f : Features) (bound : Bound) → IsBoundTo f bound → IsWidth (width bound) }
+    ensures step { (f : Features) (bound : Bound) (step : Step) → IsBoundTo f bound → IsUpTo (width bound) MAX_AMOUNT (step_vector f bound step) }
+    ensures end { (f : Features) (bound : Bound) (step : Step) → IsBoundTo f bound → IsUpTo (width bound) MAX_AMOUNT (end_vector f bound step) }
+{}
+
+/// The run of a longer list is the sum of runs, and a trajectory's vector is its run and what its end adds.
+pub fn runs_add_up()
+    ensures none { (f : Features) (bound : Bound) → run f bound [] ≡ replicate (width bound) 0 }
+    ensures one { (f : Features) (bound : Bound) (step : Step) → run f bound (step ∷ []) ≡ step_vector f bound step }
+    ensures more { (f : Features) (bound : Bound) (steps more : List Step) → run f bound (steps ++ more) ≡ sums (run f bound steps) (run f bound more) }
+    ensures empty { (f : Features) (bound : Bound) → trajectory_vector f bound [] ≡ replicate (width bound) 0 }
+    ensures whole { (f : Features) (bound : Bound) (steps : List Step) (last : Step) → trajectory_vector f bound (steps ++ last ∷ []) ≡ sums (run f bound (steps ++ last ∷ [])) (end_vector f bound last) }
+{}

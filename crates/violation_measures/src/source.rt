@@ -1,0 +1,36 @@
+ghost use Rattle.std.specs.Prelude.{◌≡◌};
+ghost use Rattle.std.specs.Option.{option_copied};
+ghost use Rattle.violation_measures.specs.Sources.{Features, IsKnown, AreSound};
+ghost use Rattle.violation_measures.specs.Steps.{IsStep};
+
+use crate::step::Step;
+use preorder::Name;
+use rule_language::Argument;
+use scenario_model::Span;
+
+/// How far the bounds of a feature may be from 0.
+pub const MAX_BOUND: i64 = 1_000_000_000_000;
+
+/// Where features come from. Each has a number, bounds, and a value at each step, which lies in the bounds. No call takes memory.
+pub trait FeatureSource {
+    /// What the calls answer.
+    ghost features: { Self → Features };
+
+    /// The number of a feature. None exactly where the source has none of that name and argument.
+    fn find(&self, name: &Name, argument: Option<&Argument>) -> Option<u32>
+        ensures { result ≡ (features self.now).find name.now (option_copied argument.entry) };
+
+    /// The least and the greatest value of the feature of a number that `find` gives, at most `MAX_BOUND` in size.
+    fn bounds(&self, feature: u32) -> Span
+        requires { IsKnown (features self.now) feature }
+        ensures { result ≡ (features self.now).bounds feature };
+
+    /// The value at a step of the feature of a number that `find` gives. The step is in its ranges.
+    fn value(&self, feature: u32, step: &Step) -> i64
+        requires known { IsKnown (features self.now) feature }
+        requires step { IsStep step.now }
+        ensures { result ≡ (features self.now).value feature step.now };
+
+    /// Bounds are in order and at most `MAX_BOUND` in size, and values lie in them.
+    ghost sound: { (source : Self) → AreSound (features source) };
+}
