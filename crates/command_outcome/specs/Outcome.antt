@@ -33,6 +33,8 @@ abbrev pub role_text : Role → List ℕ
 role_text role.Book = codes "book"
 role_text role.Table = codes "table"
 role_text role.Scenario = codes "scenario"
+role_text role.Lattice = codes "lattice"
+role_text role.List = codes "list"
 
 -- `refused ROLE FAULT`
 abbrev pub refused_text : Role → List ℕ → List ℕ
@@ -41,6 +43,10 @@ refused_text r fault = codes "refused " ++ (role_text r ++ (codes " " ++ (fault 
 -- a fault's name and its number
 abbrev pub fault_at : List ℕ → ℕ → List ℕ
 fault_at name number = name ++ (codes " " ++ decimal number)
+
+-- a fault's name and the name of what has it
+abbrev pub fault_of : List ℕ → List ℕ → List ℕ
+fault_of fault name = fault ++ (codes " " ++ name)
 
 -- `cannot read ROLE`
 abbrev pub unread_text : Role → List ℕ

@@ -12,4 +12,4 @@ mod tests;
 
 pub use delivery::{Reply, deliver};
 pub use loading::{load_bytes, save_bytes};
-pub use outcome::{Ending, Role, Status, Stop, end_as, refuse, refuse_at};
+pub use outcome::{Ending, Role, Status, Stop, end_as, refuse, refuse_at, refuse_named};

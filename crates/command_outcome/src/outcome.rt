@@ -1,6 +1,6 @@
-ghost use Rattle.std.specs.Prelude.{◌≡◌, Some};
+ghost use Rattle.std.specs.Prelude.{◌≡◌, Some, IfOk};
 ghost use Rattle.command_outcome.specs.declared.outcome.Stop.TheVariants as stop;
-ghost use Rattle.command_outcome.specs.Outcome.{EndsAs, Refuses, fault_at, role_text, status_of};
+ghost use Rattle.command_outcome.specs.Outcome.{EndsAs, Refuses, fault_at, fault_of, refused_text, role_text, status_of};
 
 use preorder::NoMemory;
 use std::alloc::{AllocError, AllocFailed, Global};
@@ -26,12 +26,15 @@ pub enum Status {
     TooManyLabels,
 }
 
-/// What an input file is to a command.
+/// What an input is to a command.
 #[derive(Clone, Copy, Debug, PartialEq, Eq)]
 pub enum Role {
     Book,
     Table,
     Scenario,
+    Lattice,
+    /// A list of maneuvers, which is a word and no file.
+    List,
 }
 
 /// What is due to a command whose work can't be done.
@@ -100,6 +103,8 @@ impl Role {
             Role::Book => "book",
             Role::Table => "table",
             Role::Scenario => "scenario",
+            Role::Lattice => "lattice",
+            Role::List => "list",
         }
     }
 }
@@ -131,6 +136,28 @@ pub fn refuse_at(alloc: Global, role: Role, fault: &str, number: usize) -> Stop
 {
     match format!(in alloc; "{fault} {number}") {
         Ok(fault) => refuse(alloc, role, fault.as_str()),
+        Err(AllocError) => Stop::NoMemory,
+    }
+}
+
+// The line that refuses by a fault of this name.
+fn named_line(alloc: Global, role: Role, fault: &str, name: &[u8]) -> Result<Vec<u8>, AllocError>
+    ensures { IfOk result (λ text. text.items ≡ refused_text role (fault_of fault.now name.now)) }
+{
+    let role = role.text();
+    let line = format!(in alloc; "refused {role} {fault} ")?;
+    let mut text = line.into_bytes();
+    text.extend_from_slice(name)?;
+    text.push(b'\n')?;
+    Ok(text)
+}
+
+/// The refusal by a fault that has a name, as that of a rule; or want of memory.
+pub fn refuse_named(alloc: Global, role: Role, fault: &str, name: &[u8]) -> Stop
+    ensures { Refuses role (Some (fault_of fault.now name.now)) result }
+{
+    match named_line(alloc, role, fault, name) {
+        Ok(text) => Stop::Ended(Ending::Refused, text),
         Err(AllocError) => Stop::NoMemory,
     }
 }

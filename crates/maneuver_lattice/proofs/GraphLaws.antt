@@ -70,7 +70,7 @@ module _ (scene : Scene) (f : Features) (bound : Bound) (bound_to : IsBoundTo f 
       back h = leads_to list (start scene) from_start state vector (step_up_to f bound (start_step scene) bound_to).width h.0 (h.1 ∙ whole_run list)
 
   -- what the end adds completes the trajectory's vector
-  finished_is : (list : List ℕ) (state : LatticeState) (vector : List ℕ) → IsLattice scene.lattice → Leads scene (start scene) list state → vector ≡ run f bound (trajectory scene list) → finished graph state vector ≡ trajectory_vector f bound (trajectory scene list)
+  pub finished_is : (list : List ℕ) (state : LatticeState) (vector : List ℕ) → IsLattice scene.lattice → Leads scene (start scene) list state → vector ≡ run f bound (trajectory scene list) → finished graph state vector ≡ trajectory_vector f bound (trajectory scene list)
   finished_is list state vector sound leads e =
       ap (λ (v : List ℕ). sums v (end_vector f bound (end_step scene state))) e
       ∙ sym (vector_is f bound (trajectory scene list) (end_step scene state) (last_is_end scene list state sound leads) (finished_end scene state))

@@ -1,4 +1,7 @@
 pub mod Lines
 pub mod Fronts
+pub mod Binding
+pub mod Walks
+pub mod WalkTexts
 pub mod OneOutcome
 pub mod Answering

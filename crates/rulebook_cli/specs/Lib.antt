@@ -4,6 +4,11 @@ pub mod Pick
 pub mod ScenarioInput
 pub mod Show
 pub mod Compare
+pub mod SceneInputs
+pub mod BoundScenes
+pub mod MoveList
+pub mod Walk
+pub mod Walked
 pub mod Asked
 pub mod ExitStatus
 pub mod Laws

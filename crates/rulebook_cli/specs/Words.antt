@@ -1,43 +1,58 @@
 -- What the words of the command line ask for. This project's own.
-use Rattle.std.specs.Prelude.{◌≡◌, ℕ, Bool, false, not, ◌&&◌, ◌==◌, if◌then◌else◌, List, [], ◌∷◌, map, Option, None, Some, codes}
+use Rattle.std.specs.Prelude.{◌≡◌, ℕ, Bool, false, not, ◌==◌, if◌then◌else◌, List, [], ◌∷◌, map, Option, None, Some, codes}
 use Rattle.std.specs.declared.alloc.Global.{Global}
 use Rattle.std.specs.declared.string.String.{String}
 use Rattle.std.specs.String.{string_bytes}
+use Rattle.std.specs.List.{list_all}
 use Rattle.std.specs.Str.{bytes_eq}
 use Rattle.rulebook_cli.specs.declared.words.Command.{Command}
-use Rattle.rulebook_cli.specs.declared.words.Command.TheVariants.{Pick, Compare, Show}
+use Rattle.rulebook_cli.specs.declared.words.Command.TheVariants.{Pick, Compare, Show, Walk}
 
 -- a command with the names of its files
 pub data Request : Type 0 where
   pick : (book table : List ℕ) → Request
   compare : (book table : List ℕ) → Request
   show : (scenario : List ℕ) → Request
+  walk : (scenario book lattice list : List ℕ) → Request
 
 -- the words as plain texts
 abbrev pub texts : List (String Global) → List (List ℕ)
 texts words = map string_bytes words
 
--- the name of a file isn't empty and doesn't begin with `-`
-abbrev pub is_file_name : List ℕ → Bool
-is_file_name [] = false
-is_file_name (c ∷ rest) = not (c == 45)
+abbrev pub dash : ℕ
+dash = 45
 
--- the command of one file
-abbrev pub one_file : List ℕ → List ℕ → Option Request
-one_file command a = if bytes_eq command (codes "show") then Some (show a) else None
+-- a word behind a command, as the name of a file, isn't empty and doesn't begin with `-`
+abbrev pub is_word : List ℕ → Bool
+is_word [] = false
+is_word (c ∷ rest) = not (c == dash)
 
--- the commands of two files
-abbrev pub two_files : List ℕ → List ℕ → List ℕ → Option Request
-two_files command a b =
+-- the command of one word
+abbrev pub one_word : List ℕ → List ℕ → Option Request
+one_word command a = if bytes_eq command (codes "show") then Some (show a) else None
+
+-- the commands of two words
+abbrev pub two_words : List ℕ → List ℕ → List ℕ → Option Request
+two_words command a b =
     if bytes_eq command (codes "pick") then Some (pick a b)
     else if bytes_eq command (codes "compare") then Some (compare a b)
     else None
 
+-- the commands of four words
+abbrev pub four_words : List ℕ → List ℕ → List ℕ → List ℕ → List ℕ → Option Request
+four_words command a b c d = if bytes_eq command (codes "walk") then Some (walk a b c d) else None
+
+-- a command with just as many words as it has
+abbrev pub with_words : List ℕ → List (List ℕ) → Option Request
+with_words command (a ∷ []) = one_word command a
+with_words command (a ∷ b ∷ []) = two_words command a b
+with_words command (a ∷ b ∷ c ∷ d ∷ []) = four_words command a b c d
+with_words command words = None
+
 -- the one reading of the words
 abbrev pub reading : List (List ℕ) → Option Request
-reading (command ∷ a ∷ []) = if is_file_name a then one_file command a else None
-reading (command ∷ a ∷ b ∷ []) = if is_file_name a && is_file_name b then two_files command a b else None
-reading words = None
+reading [] = None
+reading (command ∷ words) = if list_all is_word words then with_words command words else None
 
 -- the words have no reading
 abbrev pub HasNoReading : List (List ℕ) → Type 0
@@ -48,3 +63,4 @@ abbrev pub request_of : Command → Request
 request_of (Pick book table) = pick book.now table.now
 request_of (Compare book table) = compare book.now table.now
 request_of (Show scenario) = show scenario.now
+request_of (Walk scenario book lattice list) = walk scenario.now book.now lattice.now list.now

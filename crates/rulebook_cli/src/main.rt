@@ -7,15 +7,18 @@
 ghost use Rattle.std.specs.Prelude.{◌≡◌};
 ghost use Rattle.rulebook_cli.specs.ExitStatus.{exit_number};
 
+mod bound_scene;
 mod comparing;
 mod inputs;
 mod laws;
 mod picking;
 mod scenario_input;
+mod scene_files;
 mod showing;
 #[cfg(test)]
 mod tests;
 mod top;
+mod walking;
 mod words;
 
 use crate::top::run_rulebook;

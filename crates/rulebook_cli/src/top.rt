@@ -8,6 +8,7 @@ ghost use Rattle.rulebook_cli.specs.Asked.{asked, task_of};
 use crate::comparing::compare_rows;
 use crate::picking::pick;
 use crate::showing::show;
+use crate::walking::walk;
 use crate::words::{Command, read_words};
 use command_outcome::{Reply, Status, Stop, deliver};
 use outside_io::{Sink, Store};
@@ -22,6 +23,12 @@ fn serve<S: Store>(alloc: Global, store: &mut S, command: Command<'_>) -> Result
         Command::Pick { book, table } => pick(alloc, store, book, table),
         Command::Compare { book, table } => compare_rows(alloc, store, book, table),
         Command::Show { scenario } => show(alloc, store, scenario),
+        Command::Walk {
+            scenario,
+            book,
+            lattice,
+            list,
+        } => walk(alloc, store, scenario, book, lattice, list),
     }
 }
 

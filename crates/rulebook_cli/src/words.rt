@@ -1,17 +1,33 @@
 ghost use Rattle.std.specs.Prelude.{◌≡◌};
+ghost use Rattle.std.specs.List.{list_all};
 ghost use Rattle.std.specs.Option.{option_map};
-ghost use Rattle.rulebook_cli.specs.Words.{is_file_name, reading, texts, request_of, one_file, two_files};
+ghost use Rattle.std.specs.String.{string_bytes};
+ghost use Rattle.rulebook_cli.specs.Words.{is_word, reading, texts, request_of, one_word, two_words, four_words, with_words};
 
-/// A command with the names of its files.
+/// A command with its words, most of which name files.
 #[derive(Clone, Copy)]
 pub enum Command<'a> {
-    Pick { book: &'a str, table: &'a str },
-    Compare { book: &'a str, table: &'a str },
-    Show { scenario: &'a str },
+    Pick {
+        book: &'a str,
+        table: &'a str,
+    },
+    Compare {
+        book: &'a str,
+        table: &'a str,
+    },
+    Show {
+        scenario: &'a str,
+    },
+    Walk {
+        scenario: &'a str,
+        book: &'a str,
+        lattice: &'a str,
+        list: &'a str,
+    },
 }
 
-fn is_file_name(word: &str) -> bool
-    ensures { result ≡ is_file_name word.now }
+fn is_word(word: &str) -> bool
+    ensures { result ≡ is_word word.now }
 {
     match word.as_bytes() {
         [] => false,
@@ -19,21 +35,41 @@ fn is_file_name(word: &str) -> bool
     }
 }
 
+fn all_words(words: &[String]) -> bool
+    ensures { result ≡ list_all (λ word. is_word (string_bytes word)) words.now }
+{
+    words.iter().all(|word| is_word(word.as_str()))
+}
+
+fn are_words(words: &[String]) -> bool
+    ensures { result ≡ list_all is_word (texts words.now) }
+{
+    all_words(words)
+}
+
 /// The one reading of the words. None where they have none.
 pub fn read_words(words: &[String]) -> Option<Command<'_>>
     ensures { option_map request_of result ≡ reading (texts words.now) }
 {
     match words {
-        [command, a] if is_file_name(a.as_str()) => one_file(command.as_str(), a.as_str()),
-        [command, a, b] if is_file_name(a.as_str()) && is_file_name(b.as_str()) => {
-            two_files(command.as_str(), a.as_str(), b.as_str())
-        }
+        [command, words @ ..] if are_words(words) => with_words(command.as_str(), words),
         _ => None,
     }
 }
 
-fn one_file<'a>(command: &str, a: &'a str) -> Option<Command<'a>>
-    ensures { option_map request_of result ≡ one_file command.now a.now }
+fn with_words<'a>(command: &str, words: &'a [String]) -> Option<Command<'a>>
+    ensures { option_map request_of result ≡ with_words command.now (texts words.now) }
+{
+    match words {
+        [a] => one_word(command, a.as_str()),
+        [a, b] => two_words(command, a.as_str(), b.as_str()),
+        [a, b, c, d] => four_words(command, a.as_str(), b.as_str(), c.as_str(), d.as_str()),
+        _ => None,
+    }
+}
+
+fn one_word<'a>(command: &str, a: &'a str) -> Option<Command<'a>>
+    ensures { option_map request_of result ≡ one_word command.now a.now }
 {
     match command {
         "show" => Some(Command::Show { scenario: a }),
@@ -41,12 +77,32 @@ fn one_file<'a>(command: &str, a: &'a str) -> Option<Command<'a>>
     }
 }
 
-fn two_files<'a>(command: &str, a: &'a str, b: &'a str) -> Option<Command<'a>>
-    ensures { option_map request_of result ≡ two_files command.now a.now b.now }
+fn two_words<'a>(command: &str, a: &'a str, b: &'a str) -> Option<Command<'a>>
+    ensures { option_map request_of result ≡ two_words command.now a.now b.now }
 {
     match command {
         "pick" => Some(Command::Pick { book: a, table: b }),
         "compare" => Some(Command::Compare { book: a, table: b }),
+        _ => None,
+    }
+}
+
+fn four_words<'a>(
+    command: &str,
+    a: &'a str,
+    b: &'a str,
+    c: &'a str,
+    d: &'a str,
+) -> Option<Command<'a>>
+    ensures { option_map request_of result ≡ four_words command.now a.now b.now c.now d.now }
+{
+    match command {
+        "walk" => Some(Command::Walk {
+            scenario: a,
+            book: b,
+            lattice: c,
+            list: d,
+        }),
         _ => None,
     }
 }
