@@ -16,7 +16,7 @@ use Rattle.rulebook_cli.specs.MoveList.{list_told}
 use Rattle.rulebook_cli.specs.SceneInputs.{scene_files, bound_scene, scene, features, bound}
 use Rattle.rulebook_cli.specs.declared.scene_files.SceneFiles.{SceneFiles}
 
--- `rules R1 .. Rn`
+-- `rules` and the names of the rules
 abbrev pub rules_line : List Rule → List ℕ
 rules_line rules = codes "rules" ++ (flat_map (λ (rule : Rule). word rule.name) rules ++ codes "\n")
 
