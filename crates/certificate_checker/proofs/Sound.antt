@@ -61,7 +61,8 @@ module _ {S : Type 0} (g : Graph S) (no_worse : List ℕ → List ℕ → Bool) 
   attained : All (IsAttained g) (answers_of g cert)
   attained = All-map (IsAttained g) (finished_at g (pairs_of g cert.labels)) cert.finals (All-weaker (Contains cert.finals) (λ f. IsAttained g (finished_at g (pairs_of g cert.labels) f)) attained_final cert.finals (All-contains_itself cert.finals))
 
-  covers : (w : List ℕ) → IsAttained g w → Covers no_worse (answers_of g cert) w
+  -- some answer is no worse than each attained vector
+  pub covers : (w : List ℕ) → IsAttained g w → Covers no_worse (answers_of g cert) w
   covers w a =
       let s = a.attains.state in
       let r : IsReached g s a.attains.vector = record { list = a.list; reaches = a.attains.reaches } in

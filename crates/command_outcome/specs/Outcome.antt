@@ -35,6 +35,7 @@ role_text role.Table = codes "table"
 role_text role.Scenario = codes "scenario"
 role_text role.Lattice = codes "lattice"
 role_text role.List = codes "list"
+role_text role.Certificate = codes "certificate"
 
 -- `refused ROLE FAULT`
 abbrev pub refused_text : Role → List ℕ → List ℕ

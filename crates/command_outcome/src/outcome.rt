@@ -35,6 +35,7 @@ pub enum Role {
     Lattice,
     /// A list of maneuvers, which is a word and no file.
     List,
+    Certificate,
 }
 
 /// What is due to a command whose work can't be done.
@@ -105,6 +106,7 @@ impl Role {
             Role::Scenario => "scenario",
             Role::Lattice => "lattice",
             Role::List => "list",
+            Role::Certificate => "certificate",
         }
     }
 }

@@ -2,6 +2,13 @@ pub mod Lines
 pub mod Fronts
 pub mod Binding
 pub mod Walks
+pub mod Checks
+pub mod Planned
+pub mod Ascending
+pub mod Ordered
+pub mod Shown
+pub mod Ways
 pub mod WalkTexts
 pub mod OneOutcome
+pub mod Accepted
 pub mod Answering

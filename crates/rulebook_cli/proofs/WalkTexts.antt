@@ -1,5 +1,5 @@
 -- What the text of a walk says: whether the list ends at a goal, and its violation vector.
-use Rattle.std.proofs.Common.{◌≡◌, ◌↔◌, ℕ, Bool, List, [], ◌∷◌, refl, sym, ap, ◌∙◌, subst, IfSome}
+use Rattle.std.proofs.Common.{◌≡◌, ◌↔◌, ℕ, Bool, List, [], ◌∷◌, refl, sym, ap, ◌∙◌, subst}
 use Rattle.std.specs.Prelude.{IsTrue, Ok}
 use Rattle.rulebook_order.specs.Graph.{Reaches, finished}
 use Rattle.violation_measures.specs.Binding.{IsBoundTo}
@@ -19,7 +19,7 @@ use Rattle.command_outcome.specs.Inputs.{given, gives}
 use Rattle.command_outcome.proofs.HavingInputs.{unchanged}
 use Rattle.command_outcome.proofs.Options.{each_some}
 use Rattle.rulebook_cli.specs.SceneInputs.{scene, features, bound}
-use Rattle.rulebook_cli.specs.Walk.{IsWalkText, vector_of, walk_lines}
+use Rattle.rulebook_cli.specs.Walk.{IsWalkText, walk_lines}
 use Rattle.rulebook_cli.specs.declared.scene_files.SceneFiles.{SceneFiles}
 
 leads_once : (scene : Scene) (list : List ℕ) (s a b : LatticeState) → Leads scene s list a → Leads scene s list b → a ≡ b

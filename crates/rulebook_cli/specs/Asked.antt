@@ -1,17 +1,21 @@
 -- What words ask for, as a task. This project's own.
 use Rattle.std.specs.Prelude.{ℕ, List, Option, None, Some}
 use Rattle.command_outcome.specs.Tasks.{Task, usage}
-use Rattle.rulebook_cli.specs.Words.{Request, pick, compare, show, walk, reading}
+use Rattle.rulebook_cli.specs.Words.{Request, pick, compare, show, walk, plan, check, reading}
 use Rattle.rulebook_cli.specs.Pick.{pick_task}
 use Rattle.rulebook_cli.specs.Compare.{compare_task}
 use Rattle.rulebook_cli.specs.Show.{show_task}
 use Rattle.rulebook_cli.specs.Walk.{walk_task}
+use Rattle.rulebook_cli.specs.Plan.{plan_task}
+use Rattle.rulebook_cli.specs.Check.{check_task}
 
 abbrev pub task_of : Request → Task
 task_of (pick book table) = pick_task book table
 task_of (compare book table) = compare_task book table
 task_of (show scenario) = show_task scenario
 task_of (walk scenario book lattice list) = walk_task scenario book lattice list
+task_of (plan scenario book lattice certificate) = plan_task scenario book lattice certificate
+task_of (check scenario book lattice certificate) = check_task scenario book lattice certificate
 
 -- words with no reading are told the usage
 abbrev pub task_by : Option Request → Task

@@ -9,6 +9,12 @@ pub mod BoundScenes
 pub mod MoveList
 pub mod Walk
 pub mod Walked
+pub mod Answers
+pub mod Driven
+pub mod Certificates
+pub mod Check
+pub mod Plan
+pub mod Planning
 pub mod Asked
 pub mod ExitStatus
 pub mod Laws

@@ -1,5 +1,5 @@
 -- A scenario, a book and a lattice as inputs, and what is asked of the three together: that the book can be bound to the scene, and that there is a start. This project's own.
-use Rattle.std.specs.Prelude.{ℕ, ◌+◌, Bool, not, ◌==◌, List, [], ◌∷◌, length, map, slice_index_or, pos, Option, None, Some, Result, Ok, Err, if◌then◌else◌, ⊤, codes}
+use Rattle.std.specs.Prelude.{ℕ, ◌+◌, not, ◌==◌, List, [], ◌∷◌, length, map, slice_index_or, pos, Option, None, Some, Result, Ok, Err, if◌then◌else◌, ⊤, codes}
 use Rattle.reading.specs.Reading.{◌>>=◌ as ◌then◌}
 use Rattle.scenario_model.specs.declared.problem.Problem.{Problem}
 use Rattle.scenario_model.specs.declared.scenario.Scenario.{Scenario}

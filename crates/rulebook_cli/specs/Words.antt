@@ -1,12 +1,12 @@
 -- What the words of the command line ask for. This project's own.
-use Rattle.std.specs.Prelude.{◌≡◌, ℕ, Bool, false, not, ◌==◌, if◌then◌else◌, List, [], ◌∷◌, map, Option, None, Some, codes}
+use Rattle.std.specs.Prelude.{◌≡◌, ℕ, Bool, false, not, ◌&&◌, ◌==◌, if◌then◌else◌, List, [], ◌∷◌, map, Option, None, Some, codes}
 use Rattle.std.specs.declared.alloc.Global.{Global}
 use Rattle.std.specs.declared.string.String.{String}
 use Rattle.std.specs.String.{string_bytes}
 use Rattle.std.specs.List.{list_all}
 use Rattle.std.specs.Str.{bytes_eq}
 use Rattle.rulebook_cli.specs.declared.words.Command.{Command}
-use Rattle.rulebook_cli.specs.declared.words.Command.TheVariants.{Pick, Compare, Show, Walk}
+use Rattle.rulebook_cli.specs.declared.words.Command.TheVariants.{Pick, Compare, Show, Walk, Plan, Check}
 
 -- a command with the names of its files
 pub data Request : Type 0 where
@@ -14,6 +14,8 @@ pub data Request : Type 0 where
   compare : (book table : List ℕ) → Request
   show : (scenario : List ℕ) → Request
   walk : (scenario book lattice list : List ℕ) → Request
+  plan : (scenario book lattice certificate : List ℕ) → Request
+  check : (scenario book lattice certificate : List ℕ) → Request
 
 -- the words as plain texts
 abbrev pub texts : List (String Global) → List (List ℕ)
@@ -38,9 +40,17 @@ two_words command a b =
     else if bytes_eq command (codes "compare") then Some (compare a b)
     else None
 
--- the commands of four words
+-- the last name is none of the others
+abbrev pub is_another : List ℕ → List ℕ → List ℕ → List ℕ → Bool
+is_another a b c d = not (bytes_eq d a) && (not (bytes_eq d b) && not (bytes_eq d c))
+
+-- the commands of four words; a certificate is another file than the inputs
 abbrev pub four_words : List ℕ → List ℕ → List ℕ → List ℕ → List ℕ → Option Request
-four_words command a b c d = if bytes_eq command (codes "walk") then Some (walk a b c d) else None
+four_words command a b c d =
+    if bytes_eq command (codes "walk") then Some (walk a b c d)
+    else if bytes_eq command (codes "plan") && is_another a b c d then Some (plan a b c d)
+    else if bytes_eq command (codes "check") && is_another a b c d then Some (check a b c d)
+    else None
 
 -- a command with just as many words as it has
 abbrev pub with_words : List ℕ → List (List ℕ) → Option Request
@@ -64,3 +74,5 @@ request_of (Pick book table) = pick book.now table.now
 request_of (Compare book table) = compare book.now table.now
 request_of (Show scenario) = show scenario.now
 request_of (Walk scenario book lattice list) = walk scenario.now book.now lattice.now list.now
+request_of (Plan scenario book lattice certificate) = plan scenario.now book.now lattice.now certificate.now
+request_of (Check scenario book lattice certificate) = check scenario.now book.now lattice.now certificate.now

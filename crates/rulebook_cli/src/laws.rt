@@ -1,4 +1,4 @@
-ghost use Rattle.rulebook_cli.specs.Laws.{FilesAreKept, NothingIsDueWithoutAFile, OneOutcomeIsDue, OneStatusIsDue};
+ghost use Rattle.rulebook_cli.specs.Laws.{FilesAreKept, NothingIsDueWithoutAFile, OneOutcomeIsDue, OneStatusIsDue, PlansAreAccepted};
 
 /// Words over files are due one status, and a refusal one text.
 pub fn one_status_is_due()
@@ -18,4 +18,9 @@ pub fn files_are_kept()
 /// A file that a call comes to load is one that its outcome needs.
 pub fn nothing_is_due_without_a_file()
     ensures { NothingIsDueWithoutAFile }
+{}
+
+/// `check` accepts the certificate that `plan` saves, and prints what `plan` printed.
+pub fn plans_are_accepted()
+    ensures { PlansAreAccepted }
 {}

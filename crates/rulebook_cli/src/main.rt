@@ -7,11 +7,15 @@
 ghost use Rattle.std.specs.Prelude.{◌≡◌};
 ghost use Rattle.rulebook_cli.specs.ExitStatus.{exit_number};
 
+mod answers;
 mod bound_scene;
+mod certificates;
+mod checking;
 mod comparing;
 mod inputs;
 mod laws;
 mod picking;
+mod planning;
 mod scenario_input;
 mod scene_files;
 mod showing;

@@ -5,8 +5,10 @@ ghost use Rattle.command_outcome.specs.Ends.{Answers, EndsCut, EndsDue, EndsUnre
 ghost use Rattle.rulebook_cli.specs.Words.{HasNoReading, request_of, texts};
 ghost use Rattle.rulebook_cli.specs.Asked.{asked, task_of};
 
+use crate::checking::check;
 use crate::comparing::compare_rows;
 use crate::picking::pick;
+use crate::planning::plan;
 use crate::showing::show;
 use crate::walking::walk;
 use crate::words::{Command, read_words};
@@ -29,6 +31,18 @@ fn serve<S: Store>(alloc: Global, store: &mut S, command: Command<'_>) -> Result
             lattice,
             list,
         } => walk(alloc, store, scenario, book, lattice, list),
+        Command::Plan {
+            scenario,
+            book,
+            lattice,
+            certificate,
+        } => plan(alloc, store, scenario, book, lattice, certificate),
+        Command::Check {
+            scenario,
+            book,
+            lattice,
+            certificate,
+        } => check(alloc, store, scenario, book, lattice, certificate),
     }
 }
 

@@ -2,7 +2,7 @@ ghost use Rattle.std.specs.Prelude.{◌≡◌};
 ghost use Rattle.std.specs.List.{list_all};
 ghost use Rattle.std.specs.Option.{option_map};
 ghost use Rattle.std.specs.String.{string_bytes};
-ghost use Rattle.rulebook_cli.specs.Words.{is_word, reading, texts, request_of, one_word, two_words, four_words, with_words};
+ghost use Rattle.rulebook_cli.specs.Words.{is_another, is_word, reading, texts, request_of, one_word, two_words, four_words, with_words};
 
 /// A command with its words, most of which name files.
 #[derive(Clone, Copy)]
@@ -23,6 +23,18 @@ pub enum Command<'a> {
         book: &'a str,
         lattice: &'a str,
         list: &'a str,
+    },
+    Plan {
+        scenario: &'a str,
+        book: &'a str,
+        lattice: &'a str,
+        certificate: &'a str,
+    },
+    Check {
+        scenario: &'a str,
+        book: &'a str,
+        lattice: &'a str,
+        certificate: &'a str,
     },
 }
 
@@ -87,6 +99,13 @@ fn two_words<'a>(command: &str, a: &'a str, b: &'a str) -> Option<Command<'a>>
     }
 }
 
+// Whether the last name is none of the others.
+fn is_another(a: &str, b: &str, c: &str, d: &str) -> bool
+    ensures { result ≡ is_another a.now b.now c.now d.now }
+{
+    d != a && d != b && d != c
+}
+
 fn four_words<'a>(
     command: &str,
     a: &'a str,
@@ -102,6 +121,18 @@ fn four_words<'a>(
             book: b,
             lattice: c,
             list: d,
+        }),
+        "plan" if is_another(a, b, c, d) => Some(Command::Plan {
+            scenario: a,
+            book: b,
+            lattice: c,
+            certificate: d,
+        }),
+        "check" if is_another(a, b, c, d) => Some(Command::Check {
+            scenario: a,
+            book: b,
+            lattice: c,
+            certificate: d,
         }),
         _ => None,
     }

@@ -1,4 +1,4 @@
-use Rattle.std.proofs.Common.{rules, ◌≡◌, ℕ, ◌+◌, ◌<◌, List, [], Bor, map, length, get_or, sym, ap, ◌∙◌, arith, codes, Some}
+use Rattle.std.proofs.Common.{rules, ℕ, ◌+◌, ◌<◌, List, [], Bor, map, length, sym, ap, arith, codes, Some}
 use Rattle.std.proofs.lemmas.List.{length-map, get_or-map}
 use Rattle.violation_measures.specs.Scenes.{features_of}
 use Rattle.violation_measures.specs.SceneSources.{scene_of as source_scene}

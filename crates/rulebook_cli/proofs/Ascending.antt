@@ -1,0 +1,158 @@
+-- Answers in ascending order, and that there is one such order of them.
+use Rattle.std.proofs.Common.{◌≡◌, ◌≢◌, ◌↔◌, ℕ, zero, suc, ◌+◌, ◌<◌, Bor, Ordering, Less, Equal, Greater, ◌≤◌, Bool, true, false, List, [], ◌∷◌, length, map, get_or, refl, sym, ap, ◌∙◌, subst, arith, inl, inr}
+use Rattle.std.specs.Prelude.{AllPairs, Contains, ◌⊎◌}
+use Rattle.std.specs.Cmp.Lexicographic.{slice_cmp}
+use Rattle.std.specs.List.{AllByRecursion, IsDistinct}
+use Rattle.std.specs.List.Sorted.{IsPermutation, IsSortedBy, IsStrictlySortedBy}
+use Rattle.std.specs.Ordering.{is_lt, is_eq, ordering_reverse, nat_cmp}
+use Rattle.std.specs.Str.{bytes_eq}
+use Rattle.std.proofs.lemmas.Bool.{cases_Bool}
+use Rattle.std.specs.Cmp.{IsStrictWeakOrder}
+use Rattle.std.proofs.lemmas.Cmp.{nat_list_cmp_total}
+use Rattle.std.proofs.lemmas.List.{get_or-map, length-map}
+use Rattle.std.proofs.lemmas.List.MinMax.{ranks_by}
+use Rattle.std.proofs.lemmas.List.Sorted.{sorted_far, IsPermutation-map}
+use Rattle.std.proofs.lemmas.Map.Keys.{IsDistinct-IsPermutation}
+use Rattle.std.proofs.lemmas.Map.Text.{is_eq-slice_cmp}
+use Rattle.std.proofs.lemmas.Slice.Eq.{bytes_eq-Decides}
+use Rattle.certificate_checker.specs.Answers.{vectors_of}
+use Rattle.certificate_checker.specs.declared.checked.Attained.{Attained}
+use Rattle.rulebook_cli.specs.Answers.{AreAscending, comes_before}
+
+abbrev order : List ℕ → List ℕ → Ordering
+order v w = slice_cmp nat_cmp v w
+
+abbrev vector_of : Attained → List ℕ
+vector_of answer = answer.vector
+
+-- ---- what a sort gives
+
+flipped : (o p : Ordering) → o ≡ ordering_reverse p → is_lt p ≡ false → is_eq o ≡ false → o ≡ Less
+flipped Less p e lt eq = refl
+flipped Equal p e lt eq = absurd cc
+flipped Greater Less e lt eq = absurd cc
+flipped Greater Equal e lt eq = absurd cc
+flipped Greater Greater e lt eq = absurd cc
+
+less : (v w : List ℕ) → is_lt (order w v) ≡ false → bytes_eq v w ≡ false → order v w ≡ Less
+less v w lt other = flipped (order v w) (order w v) (nat_list_cmp_total.antisymm v w) lt (is_eq-slice_cmp v w ∙ other)
+
+above : (x : Attained) (xs : List Attained) → ((j : ℕ) (d : Attained) → j < length xs → comes_before (get_or xs j d) x ≡ false) → AllByRecursion (λ w. bytes_eq x.vector w ≡ false) (vectors_of xs)
+    → AllByRecursion (λ w. order x.vector w ≡ Less) (vectors_of xs)
+above x [] far other = tt
+above x (y ∷ ys) far other = (less x.vector y.vector (far 0 x (omega arith)) other.0, above x ys (λ j d h. far (suc j) d (omega (arith, h))) other.1)
+
+strictly : (xs : List Attained) → ((i j : ℕ) (d : Attained) → i ≤ j → j < length xs → comes_before (get_or xs j d) (get_or xs i d) ≡ false) → IsDistinct bytes_eq (vectors_of xs) → AreAscending (vectors_of xs)
+unfolding IsStrictlySortedBy IsDistinct
+strictly [] far other = tt
+strictly (x ∷ xs) far other = (
+  above x xs (λ j d h. far 0 (suc j) d (omega arith) (omega (arith, h))) other.0,
+  strictly xs (λ i j d h k. far (suc i) (suc j) d (omega (arith, h)) (omega (arith, k))) other.1,
+)
+
+differs : (v w : List ℕ) → v ≢ w → bytes_eq v w ≡ false
+differs v w other = elim (cases_Bool (bytes_eq v w)) [
+  | inl same ↦ absurd (other ((bytes_eq-Decides v w).0 same))
+  | inr false_is ↦ false_is
+]
+
+apart_from : (v : List ℕ) (vs : List (List ℕ)) → ((j : ℕ) (d : List ℕ) → j < length vs → v ≢ get_or vs j d) → AllByRecursion (λ w. bytes_eq v w ≡ false) vs
+apart_from v [] other = tt
+apart_from v (w ∷ ws) other = (differs v w (other 0 v (omega arith)), apart_from v ws (λ j d h. other (suc j) d (omega (arith, h))))
+
+distinct : (vs : List (List ℕ)) → AllPairs (λ v w. v ≢ w) vs → IsDistinct bytes_eq vs
+unfolding IsDistinct
+distinct [] other = tt
+distinct (v ∷ vs) other = (apart_from v vs (λ j d h. other 0 (suc j) d (omega arith) (omega (arith, h))), distinct vs (λ i j d h k. other (suc i) (suc j) d (omega (arith, h)) (omega (arith, k))))
+
+-- equality of texts looks the same from both sides
+pub flips : (v w : List ℕ) → bytes_eq v w ≡ bytes_eq w v
+flips v w = elim (cases_Bool (bytes_eq w v)) [
+  | inl same ↦ rw ((bytes_eq-Decides w v).0 same) refl
+  | inr other ↦ differs v w (λ e. absurd (clash (sym other ∙ (bytes_eq-Decides w v).1 (sym e)))) ∙ sym other
+]
+  where
+    clash : false ≡ true → ⊥
+    clash e = cc
+
+-- a sorted list of answers with different vectors is in ascending order
+pub sorted_ascends : (answers sorted : List Attained) → AllPairs (λ v w. v ≢ w) (vectors_of answers) → IsPermutation answers sorted → IsSortedBy comes_before sorted → AreAscending (vectors_of sorted)
+sorted_ascends answers sorted once same up =
+    strictly sorted (sorted_far comes_before (ranks_by nat_list_cmp_total vector_of) sorted up)
+    (IsDistinct-IsPermutation bytes_eq flips (vectors_of answers) (vectors_of sorted) (IsPermutation-map vector_of answers sorted same) (distinct (vectors_of answers) once))
+
+-- ---- references to answers
+
+abbrev pub before : Bor Attained → Bor Attained → Bool
+before one other = comes_before one.now other.now
+
+pub sorted_now : (xs : List (Bor Attained)) → IsSortedBy before xs → IsSortedBy comes_before (map (λ (x : Bor Attained). x.now) xs)
+sorted_now [] up k d low high = absurd (omega (arith, high))
+sorted_now (x ∷ xs) up k d low high =
+    let long : length (map (λ (y : Bor Attained). y.now) (x ∷ xs)) ≡ length (x ∷ xs) = length-map (x ∷ xs) (λ (y : Bor Attained). y.now) in
+    let later = get_or-map (λ (y : Bor Attained). y.now) (x ∷ xs) (k + 1) x d (omega (arith, high, long)) in
+    let here = get_or-map (λ (y : Bor Attained). y.now) (x ∷ xs) k x d (omega (arith, high, long)) in
+    ap (λ (a : Attained). comes_before a (get_or (map (λ (y : Bor Attained). y.now) (x ∷ xs)) k d)) later
+    ∙ ap (λ (a : Attained). comes_before (get_or (x ∷ xs) (k + 1) x).now a) here
+    ∙ up k x low (omega (arith, high, long))
+
+pub before_ranks : IsStrictWeakOrder before
+before_ranks = ranks_by nat_list_cmp_total (λ (x : Bor Attained). x.now.vector)
+
+-- ---- one list
+
+first_or_later : (x : Attained) (xs : List Attained) (a : Attained) → Contains (x ∷ xs) a → (x ≡ a) ⊎ Contains xs a
+first_or_later x xs a (zero, inside, is) = inl is
+first_or_later x xs a (suc k, inside, is) = inr (k, omega (arith, inside), is)
+
+later : (x : Attained) (xs : List Attained) (a : Attained) → Contains xs a → Contains (x ∷ xs) a
+later x xs a (k, inside, is) = (suc k, omega (arith, inside), is)
+
+first : (x : Attained) (xs : List Attained) → Contains (x ∷ xs) x
+first x xs = (0, omega arith, refl)
+
+below_all : (v : List ℕ) (xs : List Attained) (a : Attained) → AllByRecursion (λ w. order v w ≡ Less) (vectors_of xs) → Contains xs a → order v a.vector ≡ Less
+below_all v [] a h (k, inside, is) = absurd (omega (arith, inside))
+below_all v (x ∷ xs) a h listed = elim (first_or_later x xs a listed) [
+  | inl same ↦ subst (λ (b : Attained). order v b.vector ≡ Less) same h.0
+  | inr rest ↦ below_all v xs a h.1 rest
+]
+
+never_both : (o p : Ordering) → o ≡ ordering_reverse p → o ≡ Less → p ≡ Less → ⊥
+never_both Less Less e h k = absurd cc
+never_both Less Equal e h k = absurd cc
+never_both Less Greater e h k = absurd cc
+never_both Equal p e h k = absurd cc
+never_both Greater p e h k = absurd cc
+
+not_both : (v w : List ℕ) → order v w ≡ Less → order w v ≡ Less → ⊥
+not_both v w = never_both (order v w) (order w v) (nat_list_cmp_total.antisymm v w)
+
+-- two lists of answers in ascending order that have the same answers are one
+pub one_list : (xs ys : List Attained) → AreAscending (vectors_of xs) → AreAscending (vectors_of ys) → ((a : Attained) → Contains xs a ↔ Contains ys a) → xs ≡ ys
+unfolding IsStrictlySortedBy
+one_list [] [] up_x up_y same = refl
+one_list [] (y ∷ ys) up_x up_y same = (let none = (same y).1 (first y ys) in absurd (omega (arith, none.1)))
+one_list (x ∷ xs) [] up_x up_y same = (let none = (same x).0 (first x xs) in absurd (omega (arith, none.1)))
+one_list (x ∷ xs) (y ∷ ys) up_x up_y same = ap (λ (a : Attained). a ∷ xs) head ∙ ap (λ (l : List Attained). y ∷ l) (one_list xs ys up_x.1 up_y.1 (λ a. (there a, back a)))
+  where
+    head : x ≡ y
+    head = elim (first_or_later y ys x ((same x).0 (first x xs))) [
+      | inl is ↦ sym is
+      | inr in_y ↦ elim (first_or_later x xs y ((same y).1 (first y ys))) [
+        | inl is ↦ is
+        | inr in_x ↦ absurd (not_both x.vector y.vector (below_all x.vector xs y up_x.0 in_x) (below_all y.vector ys x up_y.0 in_y))
+      ]
+    ]
+
+    there : (a : Attained) → Contains xs a → Contains ys a
+    there a listed = elim (first_or_later y ys a ((same a).0 (later x xs a listed))) [
+      | inl is ↦ absurd (let lower = below_all x.vector xs a up_x.0 listed in let equal = subst (λ (b : Attained). order x.vector b.vector ≡ Less) (sym (head ∙ is)) lower in not_both x.vector x.vector equal equal)
+      | inr rest ↦ rest
+    ]
+
+    back : (a : Attained) → Contains ys a → Contains xs a
+    back a listed = elim (first_or_later x xs a ((same a).1 (later y ys a listed))) [
+      | inl is ↦ absurd (let lower = below_all y.vector ys a up_y.0 listed in let equal = subst (λ (b : Attained). order y.vector b.vector ≡ Less) (sym (sym head ∙ is)) lower in not_both y.vector y.vector equal equal)
+      | inr rest ↦ rest
+    ]

@@ -1,0 +1,5 @@
+use Rattle.rulebook_cli.proofs.Accepted.{plans_accepted}
+use Rattle.rulebook_cli.proofs.laws.plans_are_accepted.Goals as goal
+
+pub returns : goal.returns
+returns c = plans_accepted
