@@ -1,4 +1,4 @@
-ghost use Rattle.std.specs.Prelude.{◌≡◌, ◌≤◌, ◌^◌, [], ◌∷◌, IfOk, unsigned_abs, List as Items, ℕ};
+ghost use Rattle.std.specs.Prelude.{◌≡◌, ◌≤◌, ◌<◌, ◌^◌, [], ◌∷◌, IfOk, unsigned_abs, List as Items, ℕ};
 ghost use Rattle.scenario_model.specs.Scenario.{IsProblem, IsScenario};
 
 use crate::{LatticeFault, LatticeKind, SceneMoves, read_lattice};
@@ -245,6 +245,55 @@ fn a_step_is_six_numbers_in_their_ranges(rt: HostRuntime) -> Result<(), Fail> {
             "horizon = 0\nlength = 1\nwidth = 1\ntolerance = 0\nclass = [{{name = 'c', heading = 0, speed = 1}}]\nmaneuver = [{{name = 'p', from = 'c', to = 'c', steps = [{step}]}}]\n"
         )?;
         assert!(rt; tells(rt.alloc(), text.as_bytes(), word, "steps"));
+    }
+    Ok(())
+}
+
+// A lattice of so many classes and so many maneuvers of so many steps. Each class has so many maneuvers from it, while there are any.
+fn lattice_text(
+    alloc: Global,
+    classes: usize,
+    maneuvers: usize,
+    each: usize,
+    steps: usize,
+) -> Result<Vec<u8>, Fail>
+    requires { 0 < each }
+{
+    let mut text = Vec::new(alloc);
+    text.extend_from_slice(b"horizon = 0\nlength = 1\nwidth = 1\ntolerance = 0\n")?;
+    for class in 0..classes {
+        let table = format!(in alloc; "[[class]]\nname = 'c{class}'\nheading = 0\nspeed = 1\n")?;
+        text.extend_from_slice(table.as_bytes())?;
+    }
+    for maneuver in 0..maneuvers {
+        let from = maneuver / each;
+        let table = format!(in alloc;
+            "[[maneuver]]\nname = 'm{maneuver}'\nfrom = 'c{from}'\nto = 'c0'\nsteps = ["
+        )?;
+        text.extend_from_slice(table.as_bytes())?;
+        for _ in 0..steps {
+            text.extend_from_slice(b"[0, 0, 0, 1, 0, 0], ")?;
+        }
+        text.extend_from_slice(b"]\n")?;
+    }
+    Ok(text)
+}
+
+#[test]
+fn there_may_be_so_many_of_each(rt: HostRuntime) -> Result<(), Fail> {
+    let rows: [(usize, usize, usize, usize, &str, &str); 8] = [
+        (64, 0, 1, 0, "missing", "maneuver"),
+        (65, 0, 1, 0, "too-many", "class"),
+        (64, 2048, 32, 1, "ok", ""),
+        (64, 2049, 32, 1, "too-many", "maneuver"),
+        (2, 33, 32, 1, "ok", ""),
+        (2, 33, 33, 1, "too-many", "choice"),
+        (1, 1, 1, 50, "ok", ""),
+        (1, 1, 1, 51, "too-many", "step"),
+    ];
+    for (classes, maneuvers, each, steps, word, what) in rows {
+        let text = lattice_text(rt.alloc(), classes, maneuvers, each, steps)?;
+        assert!(rt; tells(rt.alloc(), text.as_slice(), word, what));
     }
     Ok(())
 }

@@ -42,7 +42,7 @@ use Rattle.rulebook_cli.proofs.Ascending.{flips}
 -- ---- files under other names
 
 module _ (files : Files) (name bytes : List ℕ) where
-  held_here : get (insert files name bytes) name ≡ Some bytes
+  pub held_here : get (insert files name bytes) name ≡ Some bytes
   held_here = get-insert nat_list_cmp_total files name bytes name ∙ ap (λ (b : Bool). cond b (Some bytes) (get files name)) (is_eq-slice_cmp name name ∙ (bytes_eq-Decides name name).1 refl)
 
   held_there : (other : List ℕ) → bytes_eq name other ≡ false → get (insert files name bytes) other ≡ get files other

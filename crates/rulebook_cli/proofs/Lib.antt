@@ -11,4 +11,5 @@ pub mod Ways
 pub mod WalkTexts
 pub mod OneOutcome
 pub mod Accepted
+pub mod Headlines
 pub mod Answering

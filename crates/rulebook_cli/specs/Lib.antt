@@ -16,5 +16,6 @@ pub mod Check
 pub mod Plan
 pub mod Planning
 pub mod Asked
+pub mod Headline
 pub mod ExitStatus
 pub mod Laws

@@ -4,6 +4,7 @@ ghost use Rattle.command_outcome.specs.Outcome.{IsDueStatus};
 ghost use Rattle.command_outcome.specs.Ends.{Answers, EndsCut, EndsDue, EndsUnread, EndsUnsaved, EndsUsage, IsComplete, Serves, paper, shelf};
 ghost use Rattle.rulebook_cli.specs.Words.{HasNoReading, request_of, texts};
 ghost use Rattle.rulebook_cli.specs.Asked.{asked, task_of};
+ghost use Rattle.rulebook_cli.specs.Headline.{CheckPrintsTheAnswer, PlanPrintsTheAnswer};
 
 use crate::checking::check;
 use crate::comparing::compare_rows;
@@ -68,6 +69,15 @@ pub fn run_rulebook<S: Store, K: Sink>(
     // The status is the due one; a due text was appended and nothing else; the files are as the due outcome says.
     ensures due { IsDueStatus result → EndsDue (asked (texts words.now))
         (shelf S.held S.faults S.failed store.old) (shelf S.held S.faults S.failed store.new) result
+        (Appends (K.written out.old) (K.written out.new)) }
+
+    // The headline. A plan that is done has printed exactly the violation vectors of lattice trajectories that none beats, each once with a
+    // trajectory that has it, or `none` where there is no lattice trajectory; and a certificate that shows it stands under its last word.
+    ensures plan { result ≡ Status.Done → PlanPrintsTheAnswer (texts words.now) (S.held store.old) (S.held store.new)
+        (Appends (K.written out.old) (K.written out.new)) }
+
+    // A check that is done has printed exactly the same of its scene, whoever made the certificate.
+    ensures check { result ≡ Status.Done → CheckPrintsTheAnswer (texts words.now) (S.held store.old)
         (Appends (K.written out.old) (K.written out.new)) }
 
     // A file of the words couldn't be read, every one before it has a reading, and the text says which.
