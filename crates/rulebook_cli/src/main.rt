@@ -18,6 +18,8 @@ mod picking;
 mod planning;
 mod scenario_input;
 mod scene_files;
+#[cfg(test)]
+mod scene_tests;
 mod showing;
 #[cfg(test)]
 mod tests;

@@ -1,0 +1,601 @@
+use crate::top::run_rulebook;
+use command_outcome::Status;
+use outside_io::{MemorySink, MemoryStore};
+use std::alloc::Global;
+use std::test::Fail;
+
+/// A scene as the three texts of its files, the scenario in pieces.
+#[derive(Clone, Copy)]
+struct Scene {
+    obstacle: &'static str,
+    start: &'static str,
+    goal: &'static str,
+    book: &'static str,
+    lattice: &'static str,
+}
+
+/// What a call leaves: its status, its text, and what stands under the certificate's name.
+#[derive(Drop)]
+struct Left {
+    status: Status,
+    text: Vec<u8>,
+    certificate: Vec<u8>,
+}
+
+/// Which calls of the store fail. 0 is none.
+#[derive(Clone, Copy)]
+struct Failing {
+    load: u64,
+    save: u64,
+    kept: usize,
+}
+
+const NOTHING: Failing = Failing {
+    load: 0,
+    save: 0,
+    kept: 0,
+};
+
+// A lanelet of 200 m by 4 m, the vehicle at (0, 0) with 10 m/s.
+const LANELET: &str =
+    "<lanelet id='1'><leftBound><point><x>-50</x><y>2</y></point><point><x>150</x><y>2</y></point></leftBound><rightBound><point><x>-50</x><y>-2</y></point><point><x>150</x><y>-2</y></point></rightBound></lanelet>";
+
+const FROM_0: &str = "<time><exact>0</exact></time><velocity><exact>10</exact></velocity>";
+
+const FROM_5: &str = "<time><exact>5</exact></time><velocity><exact>10</exact></velocity>";
+
+const FASTER: &str = "<time><exact>0</exact></time><velocity><exact>11</exact></velocity>";
+
+const AT_0: &str = "<time><intervalStart>0</intervalStart><intervalEnd>0</intervalEnd></time>";
+
+const AT_1: &str = "<time><intervalStart>1</intervalStart><intervalEnd>1</intervalEnd></time>";
+
+// A car of 4.5 m by 1.8 m at (10, 0), and a goal round it.
+const CAR: &str =
+    "<staticObstacle id='5'><shape><rectangle><length>4.5</length><width>1.8</width></rectangle></shape><initialState><position><point><x>10</x><y>0</y></point></position></initialState></staticObstacle>";
+
+const ROUND_IT: &str =
+    "<time><intervalStart>1</intervalStart><intervalEnd>1</intervalEnd></time><position><rectangle><length>4</length><width>12</width><center><x>10</x><y>0</y></center></rectangle></position>";
+
+const TWO: &str = "rule a\npart a 1 maneuver(p)\nrule b\npart b 1 maneuver(q)\n";
+
+const ONE: &str = "rule a\npart a 1 overlaps\n";
+
+const FIVE: &str =
+    "rule collision\npart collision 1 overlaps\nrule lane\npart lane 1 off_road\nrule speed\npart speed 1 max(0, speed - 13900)\nrule accel\npart accel 1 abs(accel)\nrule turn\npart turn 1 abs(turn)\nabove collision lane\nabove lane speed\nabove speed accel\nabove speed turn\n";
+
+const AHEAD: &str = "rule a\npart a 5000 maneuver(q)\nfinal a 1 headway\n";
+
+// Two maneuvers of one step, p and q.
+const P_Q: &str =
+    "horizon = 1\nlength = 45000\nwidth = 18000\ntolerance = 0\n[[class]]\nname = 'c'\nheading = 0\nspeed = 10000\n[[maneuver]]\nname = 'p'\nfrom = 'c'\nto = 'c'\nsteps = [[10000, 0, 0, 10000, 0, 0]]\n[[maneuver]]\nname = 'q'\nfrom = 'c'\nto = 'c'\nsteps = [[10000, 0, 0, 10000, 0, 0]]\n";
+
+const NO_TIME: &str =
+    "horizon = 0\nlength = 45000\nwidth = 18000\ntolerance = 0\n[[class]]\nname = 'c'\nheading = 0\nspeed = 10000\n[[maneuver]]\nname = 'p'\nfrom = 'c'\nto = 'c'\nsteps = [[10000, 0, 0, 10000, 0, 0]]\n";
+
+// q drives 2 m, p 1 m.
+const FARTHER: &str =
+    "horizon = 1\nlength = 45000\nwidth = 18000\ntolerance = 0\n[[class]]\nname = 'c'\nheading = 0\nspeed = 10000\n[[maneuver]]\nname = 'p'\nfrom = 'c'\nto = 'c'\nsteps = [[10000, 0, 0, 10000, 0, 0]]\n[[maneuver]]\nname = 'q'\nfrom = 'c'\nto = 'c'\nsteps = [[20000, 0, 0, 10000, 0, 0]]\n";
+
+const SWERVE: &str =
+    "horizon = 1\nlength = 45000\nwidth = 18000\ntolerance = 0\nclass = [{name = 'run', heading = 0, speed = 10000}, {name = 'slow', heading = 0, speed = 9000}, {name = 'halt', heading = 0, speed = 0}]\nmaneuver = [{name = 'keep', from = 'run', to = 'run', steps = [[100000, 0, 0, 10000, 0, 0]]}, {name = 'soft', from = 'run', to = 'slow', steps = [[100000, 40000, 0, 9000, -1000, 100000]]}, {name = 'sharp', from = 'run', to = 'run', steps = [[100000, 40000, 0, 10000, 0, 300000]]}, {name = 'brake', from = 'run', to = 'halt', steps = [[20000, 0, 0, 0, -10000, 0]]}]\n";
+
+// Two classes that are as near to 10 m/s; p begins in the first, q in the second.
+const TIE: &str =
+    "horizon = 1\nlength = 1\nwidth = 1\ntolerance = 1000\nclass = [{name = 'c', heading = 0, speed = 11000}, {name = 'd', heading = 0, speed = 9000}]\nmaneuver = [{name = 'p', from = 'c', to = 'c', steps = [[10000, 0, 0, 11000, 0, 0]]}, {name = 'q', from = 'd', to = 'd', steps = [[10000, 0, 0, 9000, 0, 0]]}]\n";
+
+const PLAIN: Scene = Scene {
+    obstacle: "",
+    start: FROM_0,
+    goal: AT_1,
+    book: TWO,
+    lattice: P_Q,
+};
+
+const PARKED: Scene = Scene {
+    obstacle: CAR,
+    start: FROM_0,
+    goal: ROUND_IT,
+    book: FIVE,
+    lattice: SWERVE,
+};
+
+/// Runs a command over the files `s`, `b` and `l` of a scene, with a last word, and with a certificate held under `c`.
+fn run(
+    alloc: Global,
+    command: &str,
+    last: &str,
+    scene: Scene,
+    certificate: &[u8],
+    failing: Failing,
+) -> Result<Left, Fail> {
+    let mut words = Vec::new(alloc);
+    for word in [command, "s", "b", "l", last] {
+        words.push(String::from_str(alloc, word)?)?;
+    }
+    let Scene {
+        obstacle,
+        start,
+        goal,
+        book,
+        lattice,
+    } = scene;
+    let document = format!(in alloc;
+        "<commonRoad commonRoadVersion='2020a' timeStepSize='0.1'>\n{LANELET}{obstacle}<planningProblem id='9'><initialState><position><point><x>0</x><y>0</y></point></position><orientation><exact>0</exact></orientation>{start}</initialState><goalState>{goal}</goalState></planningProblem>\n</commonRoad>\n"
+    )?;
+    let mut store = MemoryStore::new(alloc);
+    store.put("s", document.as_bytes())?;
+    store.put("b", book.as_bytes())?;
+    store.put("l", lattice.as_bytes())?;
+    store.put("c", certificate)?;
+    store.fail_load(failing.load);
+    store.fail_save(failing.save, failing.kept);
+    let mut out = MemorySink::with_room(alloc, 200_000)?;
+    let status = run_rulebook(alloc, &words, &mut store, &mut out);
+    let certificate = store.get("c").ok_or("no certificate")?.to_vec(alloc)?;
+    Ok(Left {
+        status,
+        text: out.written().to_vec(alloc)?,
+        certificate,
+    })
+}
+
+#[test]
+fn walk_adds_up_a_list(rt: HostRuntime) -> Result<(), Fail> {
+    let touched =
+        "<staticObstacle id='5'><shape><polygon><point><x>2.25</x><y>0.9</y></point><point><x>4</x><y>0.9</y></point><point><x>4</x><y>2</y></point></polygon></shape><initialState><position><point><x>0</x><y>0</y></point></position></initialState></staticObstacle>";
+    let missed =
+        "<staticObstacle id='5'><shape><polygon><point><x>2.2501</x><y>0.9</y></point><point><x>4</x><y>0.9</y></point><point><x>4</x><y>2</y></point></polygon></shape><initialState><position><point><x>0</x><y>0</y></point></position></initialState></staticObstacle>";
+    let five = "rules collision lane speed accel turn\nvector ";
+    let rows: [(Scene, &str, Status, &str, &str); 13] = [
+        (
+            PARKED,
+            "sharp",
+            Status::Done,
+            five,
+            "0 4 0 0 300000\ngoal yes\n",
+        ),
+        (PARKED, ".", Status::Done, five, "0 0 0 0 0\ngoal no\n"),
+        (
+            PARKED,
+            "sharp,keep",
+            Status::Refused,
+            "refused list no-such-move 2\n",
+            "",
+        ),
+        (
+            Scene {
+                obstacle: touched,
+                book: ONE,
+                ..PLAIN
+            },
+            ".",
+            Status::Done,
+            "rules a\nvector 1\n",
+            "goal no\n",
+        ),
+        (
+            Scene {
+                obstacle: missed,
+                book: ONE,
+                ..PLAIN
+            },
+            ".",
+            Status::Done,
+            "rules a\nvector 0\n",
+            "goal no\n",
+        ),
+        (
+            Scene {
+                obstacle: CAR,
+                book: AHEAD,
+                lattice: FARTHER,
+                ..PLAIN
+            },
+            ".",
+            Status::Done,
+            "rules a\nvector 100000\n",
+            "goal no\n",
+        ),
+        (
+            Scene {
+                obstacle: CAR,
+                book: AHEAD,
+                lattice: FARTHER,
+                ..PLAIN
+            },
+            "p",
+            Status::Done,
+            "rules a\nvector 90000\n",
+            "goal yes\n",
+        ),
+        (
+            Scene {
+                start: FASTER,
+                lattice: TIE,
+                ..PLAIN
+            },
+            "p",
+            Status::Done,
+            "rules a b\nvector 1 0\n",
+            "goal yes\n",
+        ),
+        (
+            Scene {
+                lattice: TIE,
+                ..PLAIN
+            },
+            "p",
+            Status::Done,
+            "rules a b\nvector 1 0\n",
+            "goal yes\n",
+        ),
+        (
+            Scene {
+                lattice: TIE,
+                ..PLAIN
+            },
+            "q",
+            Status::Refused,
+            "refused list no-such-move 1\n",
+            "",
+        ),
+        (
+            Scene {
+                start: FASTER,
+                ..PLAIN
+            },
+            ".",
+            Status::Refused,
+            "refused lattice no-start-class\n",
+            "",
+        ),
+        (
+            Scene {
+                book: "rule a\n",
+                start: FASTER,
+                ..PLAIN
+            },
+            "z",
+            Status::Refused,
+            "refused book bare-rule a\n",
+            "",
+        ),
+        (
+            Scene {
+                book: "rule a\npart a 1 tick * tick * tick\n",
+                ..PLAIN
+            },
+            ".",
+            Status::Refused,
+            "refused book range-too-large a\n",
+            "",
+        ),
+    ];
+    for (scene, list, status, first, rest) in rows {
+        let left = run(rt.alloc(), "walk", list, scene, b"", NOTHING)?;
+        let text = format!(in rt.alloc(); "{first}{rest}")?;
+        assert_eq!(rt; left.status, status);
+        assert_eq!(rt; left.text.as_slice(), text.as_bytes());
+    }
+    Ok(())
+}
+
+#[test]
+fn a_goal_is_met_where_it_is(rt: HostRuntime) -> Result<(), Fail> {
+    let rows: [(&str, &str); 9] = [
+        (
+            "<orientation><intervalStart>6.1</intervalStart><intervalEnd>6.4</intervalEnd></orientation>",
+            "goal yes\n",
+        ),
+        (
+            "<orientation><intervalStart>-6.4</intervalStart><intervalEnd>-6.1</intervalEnd></orientation>",
+            "goal yes\n",
+        ),
+        (
+            "<orientation><intervalStart>3</intervalStart><intervalEnd>3.3</intervalEnd></orientation>",
+            "goal no\n",
+        ),
+        ("<position><lanelet ref='1'/></position>", "goal yes\n"),
+        (
+            "<position><circle><radius>1</radius><center><x>2</x><y>0</y></center></circle></position>",
+            "goal yes\n",
+        ),
+        (
+            "<position><circle><radius>1</radius><center><x>2.1</x><y>0</y></center></circle></position>",
+            "goal no\n",
+        ),
+        (
+            "<position><rectangle><length>4</length><width>1</width><orientation>1.570796</orientation><center><x>1.4</x><y>1.9</y></center></rectangle></position>",
+            "goal yes\n",
+        ),
+        (
+            "<position><rectangle><length>4</length><width>1</width><center><x>1.4</x><y>1.9</y></center></rectangle></position>",
+            "goal no\n",
+        ),
+        (
+            "<velocity><intervalStart>9</intervalStart><intervalEnd>9.9</intervalEnd></velocity>",
+            "goal no\n",
+        ),
+    ];
+    for (more, ends) in rows {
+        let mut words = Vec::new(rt.alloc());
+        for word in ["walk", "s", "b", "l", "p"] {
+            words.push(String::from_str(rt.alloc(), word)?)?;
+        }
+        let document = format!(in rt.alloc();
+            "<commonRoad commonRoadVersion='2020a' timeStepSize='0.1'>\n{LANELET}<planningProblem id='9'><initialState><position><point><x>0</x><y>0</y></point></position><orientation><exact>0</exact></orientation>{FROM_0}</initialState><goalState>{AT_1}{more}</goalState></planningProblem>\n</commonRoad>\n"
+        )?;
+        let mut store = MemoryStore::new(rt.alloc());
+        store.put("s", document.as_bytes())?;
+        store.put("b", ONE.as_bytes())?;
+        store.put("l", P_Q.as_bytes())?;
+        let mut out = MemorySink::with_room(rt.alloc(), 100)?;
+        let status = run_rulebook(rt.alloc(), &words, &mut store, &mut out);
+        let text = format!(in rt.alloc(); "rules a\nvector 0\n{ends}")?;
+        assert_eq!(rt; status, Status::Done);
+        assert_eq!(rt; out.written(), text.as_bytes());
+    }
+    Ok(())
+}
+
+#[test]
+fn plan_prints_the_answer_and_check_accepts_it(rt: HostRuntime) -> Result<(), Fail> {
+    let ahead = Scene {
+        obstacle: CAR,
+        book: AHEAD,
+        lattice: FARTHER,
+        ..PLAIN
+    };
+    let last = "rule a\npart a 1 maneuver(p)\nrule b\nfinal b 1 maneuver(q)\nfinal b 2 tick\n";
+    let rows: [(Scene, &str); 6] = [
+        (
+            Scene {
+                goal: AT_0,
+                lattice: NO_TIME,
+                book: "rule a\npart a 1 maneuver(p)\nrule b\npart b 1 tick\n",
+                ..PLAIN
+            },
+            "rules a b\nfront 1\n0 0 :\n",
+        ),
+        (PLAIN, "rules a b\nfront 2\n0 1 : q\n1 0 : p\n"),
+        (
+            Scene {
+                start: FROM_5,
+                ..PLAIN
+            },
+            "rules a b\nnone\n",
+        ),
+        (
+            PARKED,
+            "rules collision lane speed accel turn\nfront 2\n0 4 0 0 300000 : sharp\n0 4 0 1000 100000 : soft\n",
+        ),
+        (
+            Scene {
+                book: last,
+                ..PLAIN
+            },
+            "rules a b\nfront 1\n0 2 : q\n",
+        ),
+        (ahead, "rules a\nfront 1\n85000 : q\n"),
+    ];
+    for (scene, text) in rows {
+        let planned = run(rt.alloc(), "plan", "c", scene, b"", NOTHING)?;
+        assert_eq!(rt; planned.status, Status::Done);
+        assert_eq!(rt; planned.text.as_slice(), text.as_bytes());
+        let checked = run(
+            rt.alloc(),
+            "check",
+            "c",
+            scene,
+            planned.certificate.as_slice(),
+            NOTHING,
+        )?;
+        let accepted = format!(in rt.alloc(); "accepted\n{text}")?;
+        assert_eq!(rt; checked.status, Status::Done);
+        assert_eq!(rt; checked.text.as_slice(), accepted.as_bytes());
+    }
+    Ok(())
+}
+
+const LABELS: &str = "rulebook certificate 1\nlabels 3\n0 0\n0 1\nlinks\n";
+
+#[test]
+fn check_says_why_a_certificate_is_no_good(rt: HostRuntime) -> Result<(), Fail> {
+    let rows: [(&str, &str, Status, &str); 16] = [
+        (
+            LABELS,
+            "1 2\n\n\nfinals 1 2\ngoals 1 2\nend\n",
+            Status::Done,
+            "accepted\nrules a b\nfront 2\n0 1 : q\n1 0 : p\n",
+        ),
+        (
+            LABELS,
+            "1 2\n\n\nfinals 2 1\ngoals 1 2\nend\n",
+            Status::Done,
+            "accepted\nrules a b\nfront 2\n0 1 : q\n1 0 : p\n",
+        ),
+        (
+            LABELS,
+            "1\n\n\nfinals 1 2\ngoals 1 2\nend\n",
+            Status::Rejected,
+            "rejected 4 0\n",
+        ),
+        (
+            LABELS,
+            "2 2\n\n\nfinals 1 2\ngoals 1 2\nend\n",
+            Status::Rejected,
+            "rejected 4 0\n",
+        ),
+        (
+            LABELS,
+            "1 2 1\n\n\nfinals 1 2\ngoals 1 2\nend\n",
+            Status::Rejected,
+            "rejected 8 0\n",
+        ),
+        (
+            LABELS,
+            "1 2\n\nfinals 1 2\ngoals 1 2\nend\n",
+            Status::Refused,
+            "refused certificate syntax 8\n",
+        ),
+        (
+            LABELS,
+            "1 2\n\n\nfinals 1\ngoals 1 1\nend\n",
+            Status::Rejected,
+            "rejected 6 2\n",
+        ),
+        (
+            LABELS,
+            "1 2\n\n\nfinals 0 1 2\ngoals 1 2\nend\n",
+            Status::Rejected,
+            "rejected 5 0\n",
+        ),
+        (
+            LABELS,
+            "1 2\n\n\nfinals",
+            Status::Refused,
+            "refused certificate truncated\n",
+        ),
+        (
+            LABELS,
+            "1 2\n\n\nfinals 1 2\ngoals 1 2\nend\nx",
+            Status::Refused,
+            "refused certificate trailing-bytes\n",
+        ),
+        ("", "", Status::Refused, "refused certificate truncated\n"),
+        (
+            "rulebook certificate 1\nlabels 01\n",
+            "links\n\nfinals 0\ngoals 0\nend\n",
+            Status::Refused,
+            "refused certificate syntax 2\n",
+        ),
+        (
+            "rulebook certificate 1\nlabels 50001\n",
+            "links\n\nfinals 0\ngoals 0\nend\n",
+            Status::Refused,
+            "refused certificate too-many-labels\n",
+        ),
+        (
+            "rulebook certificate 1\nlabels 0\nlinks\n",
+            "finals\ngoals\nend\n",
+            Status::Rejected,
+            "rejected 1 0\n",
+        ),
+        (
+            "rulebook certificate 1\nlabels 3\n1 0\n0 1\nlinks\n",
+            "1 2\n\n\nfinals 1 2\ngoals 1 2\nend\n",
+            Status::Rejected,
+            "rejected 2 1\n",
+        ),
+        (
+            "rulebook certificate 1\nlabels 3\n0 0\n0 2\nlinks\n",
+            "1 2\n\n\nfinals 1 2\ngoals 1 2\nend\n",
+            Status::Rejected,
+            "rejected 3 2\n",
+        ),
+    ];
+    for (first, rest, status, text) in rows {
+        let certificate = format!(in rt.alloc(); "{first}{rest}")?;
+        let left = run(
+            rt.alloc(),
+            "check",
+            "c",
+            PLAIN,
+            certificate.as_bytes(),
+            NOTHING,
+        )?;
+        assert_eq!(rt; left.status, status);
+        assert_eq!(rt; left.text.as_slice(), text.as_bytes());
+    }
+    let above = "rule a\npart a 1 maneuver(p)\nrule b\npart b 1 maneuver(q)\nabove a b\n";
+    let certificate = format!(in rt.alloc(); "{LABELS}1 2\n\n\nfinals 1 2\ngoals 1 2\nend\n")?;
+    let left = run(
+        rt.alloc(),
+        "check",
+        "c",
+        Scene {
+            book: above,
+            ..PLAIN
+        },
+        certificate.as_bytes(),
+        NOTHING,
+    )?;
+    assert_eq!(rt; left.status, Status::Rejected);
+    assert_eq!(rt; left.text.as_slice(), b"rejected 7 2\n".as_slice());
+    Ok(())
+}
+
+#[test]
+fn plan_saves_before_it_prints(rt: HostRuntime) -> Result<(), Fail> {
+    let whole = format!(in rt.alloc(); "{LABELS}1 2\n\n\nfinals 1 2\ngoals 1 2\nend\n")?;
+    let rows: [(&str, &str, Failing, Status, &str, &str); 7] = [
+        (
+            "plan",
+            "c",
+            NOTHING,
+            Status::Done,
+            "rules a b\nfront 2\n0 1 : q\n1 0 : p\n",
+            whole.as_str(),
+        ),
+        (
+            "plan",
+            "c",
+            Failing { load: 1, ..NOTHING },
+            Status::ReadFault,
+            "cannot read scenario\n",
+            "old",
+        ),
+        (
+            "plan",
+            "c",
+            Failing { load: 3, ..NOTHING },
+            Status::ReadFault,
+            "cannot read lattice\n",
+            "old",
+        ),
+        (
+            "check",
+            "c",
+            Failing { load: 4, ..NOTHING },
+            Status::ReadFault,
+            "cannot read certificate\n",
+            "old",
+        ),
+        (
+            "plan",
+            "c",
+            Failing {
+                save: 1,
+                kept: 10,
+                ..NOTHING
+            },
+            Status::WriteFault,
+            "",
+            "rulebook c",
+        ),
+        (
+            "plan",
+            "s",
+            NOTHING,
+            Status::Usage,
+            "usage: see --help\n",
+            "old",
+        ),
+        (
+            "check",
+            "l",
+            NOTHING,
+            Status::Usage,
+            "usage: see --help\n",
+            "old",
+        ),
+    ];
+    for (command, last, failing, status, text, certificate) in rows {
+        let left = run(rt.alloc(), command, last, PLAIN, b"old", failing)?;
+        assert_eq!(rt; left.status, status);
+        assert_eq!(rt; left.text.as_slice(), text.as_bytes());
+        assert_eq!(rt; left.certificate.as_slice(), certificate.as_bytes());
+    }
+    Ok(())
+}
