@@ -1,5 +1,7 @@
 pub mod Added
+pub mod Factors
 pub mod Kept
+pub mod Lines
 pub mod LostPairs
 pub mod Merged
 pub mod Parts

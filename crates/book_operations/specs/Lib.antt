@@ -3,7 +3,9 @@ pub mod Derivation
 pub mod First
 pub mod Images
 pub mod Kinds
+pub mod Merging
 pub mod Same
+pub mod Scripts
 pub mod Summing
 pub mod SumBelow
 pub mod Tests

@@ -9,9 +9,12 @@ mod augmentation;
 mod fault;
 mod images;
 mod kind;
+mod merging;
 mod pairs;
 mod refinement;
 mod same;
+mod script;
+mod steps;
 mod sum;
 #[cfg(test)]
 mod tests;
