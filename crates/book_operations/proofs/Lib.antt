@@ -1,4 +1,6 @@
 pub mod Added
+pub mod Chain
+pub mod Children
 pub mod Factors
 pub mod Kept
 pub mod Lines

@@ -103,9 +103,13 @@ abbrev pub words_child : ℕ → List (List ℕ) → Book → Result (Option Chi
 words_child n [] book = Ok None
 words_child n (word ∷ words) book = script_words n (word ∷ words) book >>= λ child. Ok (Some child)
 
--- the child that line n makes of the book, if it has a word; lines are as those of a book
+-- the child that line n makes of the book, if it has a word, by its length with its comment and its text without it
+abbrev pub text_child : ℕ → ℕ → List ℕ → Book → Result (Option Child) DeriveFault
+text_child n len text book = if nat_lt MAX_LINE len then Err (Syntax n) else words_child n (words text) book
+
+-- the same by the whole line; comments, blanks and the limit of a line are as in a book
 abbrev pub line_child : ℕ → List ℕ → Book → Result (Option Child) DeriveFault
-line_child n line book = if nat_lt MAX_LINE (length line) then Err (Syntax n) else words_child n (words (content line)) book
+line_child n line book = text_child n (length line) (content line) book
 
 -- ---- what a script makes
 
@@ -151,17 +155,20 @@ abbrev pub multiplier : List (List ℕ) → List ℕ → ℕ
 multiplier (kind ∷ new ∷ words) name = if bytes_eq kind (codes "merge") then times_in words name else 1
 multiplier words name = 1
 
--- y, of what the line leaves of the book, carries x of the book
-abbrev pub CarriesOver : Book → List ℕ → Result (Option Child) DeriveFault → List ℕ → List ℕ → Type 0
-CarriesOver book line (Ok None) x y = x ≡ y
-CarriesOver book line (Ok (Some child)) x y = Carries (size_of book) (size_of child.book) (becomes book child.book (multiplier (words (content line)))) x y
-CarriesOver book line (Err fault) x y = ⊥
+abbrev pub line_multiplier : List ℕ → List ℕ → ℕ
+line_multiplier line = multiplier (words (content line))
+
+-- y, of what a line leaves of the book, carries x of the book, where the line multiplies so
+abbrev pub CarriesOver : Book → (List ℕ → ℕ) → Result (Option Child) DeriveFault → List ℕ → List ℕ → Type 0
+CarriesOver book times (Ok None) x y = x ≡ y
+CarriesOver book times (Ok (Some child)) x y = Carries (size_of book) (size_of child.book) (becomes book child.book times) x y
+CarriesOver book times (Err fault) x y = ⊥
 
 -- last_x carries x through the lines: from book to book there are vectors that carry one another
 unfoldable pub CarriesThrough : ℕ → List (List ℕ) → Book → List ℕ → List ℕ → Type 0
 CarriesThrough n [] book x last_x = x ≡ last_x
 CarriesThrough n (line ∷ lines) book x last_x =
-    (next : Book) × (y : List ℕ) × Leaves book (line_child n line book) next × CarriesOver book line (line_child n line book) x y × CarriesThrough (n + 1) lines next y last_x
+    (next : Book) × (y : List ℕ) × Leaves book (line_child n line book) next × CarriesOver book (line_multiplier line) (line_child n line book) x y × CarriesThrough (n + 1) lines next y last_x
 
 abbrev pub BeatsIn : Book → List ℕ → List ℕ → Type 0
 BeatsIn book = Beats (NoWorseUnder book.statements (size_of book))
@@ -170,3 +177,8 @@ BeatsIn book = Beats (NoWorseUnder book.statements (size_of book))
 abbrev pub KeepsThrough : ℕ → List (List ℕ) → Book → Book → Type 0
 KeepsThrough n lines first last =
     (x y last_x last_y : List ℕ) → CarriesThrough n lines first x last_x → CarriesThrough n lines first y last_y → BeatsIn first x y → BeatsIn last last_x last_y
+
+-- the same over one line
+abbrev pub KeepsOver : Book → (List ℕ → ℕ) → Result (Option Child) DeriveFault → Book → Type 0
+KeepsOver book times made next =
+    (x y next_x next_y : List ℕ) → CarriesOver book times made x next_x → CarriesOver book times made y next_y → BeatsIn book x y → BeatsIn next next_x next_y
