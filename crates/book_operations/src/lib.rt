@@ -24,3 +24,4 @@ pub use augmentation::test_augmentation;
 pub use fault::DeriveFault;
 pub use kind::{Accepted, accept};
 pub use refinement::test_refinement;
+pub use script::apply_script;

@@ -247,12 +247,7 @@ fn restated(
 }
 
 // The book with the new rule in place of those that the words name.
-fn merged_book(
-    alloc: Global,
-    new: Rule,
-    words: &[&[u8]],
-    book: &Book,
-) -> Result<Book, NoMemory>
+fn merged_book(alloc: Global, new: Rule, words: &[&[u8]], book: &Book) -> Result<Book, NoMemory>
     requires { IsBook book.now }
     ensures { IfOk result (λ child. child ≡ merged_book new (map (λ w. w.now) words.now) book.now) }
 {
