@@ -2,6 +2,7 @@ pub mod Added
 pub mod Chain
 pub mod Children
 pub mod Factors
+pub mod Inserted
 pub mod Kept
 pub mod Lines
 pub mod LostPairs

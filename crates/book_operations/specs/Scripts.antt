@@ -20,7 +20,7 @@ use Rattle.rulebook_order.specs.NoWorseUnder.{NoWorseUnder}
 use Rattle.book_operations.specs.Derivation.{Carries}
 use Rattle.book_operations.specs.Kinds.{IsStep, IsStepFault, ShowsAs}
 use Rattle.book_operations.specs.Merging.{times_in, is_weight, merge_line}
-use Rattle.book_operations.specs.Tests.{size_of, becomes}
+use Rattle.book_operations.specs.Tests.{size_of, becomes, once}
 use Rattle.book_operations.specs.declared.fault.DeriveFault.{DeriveFault}
 use Rattle.book_operations.specs.declared.fault.DeriveFault.TheVariants.{Syntax, UnknownRule, DuplicateName, BadWeight, TooManyRules, TooManyParts, NoMemory}
 use Rattle.book_operations.specs.declared.kind.Accepted.{Accepted}
@@ -152,8 +152,8 @@ IsScriptFault script first fault = (IsTrue (is_utf8 script) × IsFirstRefused 1 
 
 -- by what the line's words multiply the values of the rule of this name: a merge by what it names, all others by 1
 abbrev pub multiplier : List (List ℕ) → List ℕ → ℕ
-multiplier (kind ∷ new ∷ words) name = if bytes_eq kind (codes "merge") then times_in words name else 1
-multiplier words name = 1
+multiplier (kind ∷ new ∷ words) = if bytes_eq kind (codes "merge") then times_in words else once
+multiplier words = once
 
 abbrev pub line_multiplier : List ℕ → List ℕ → ℕ
 line_multiplier line = multiplier (words (content line))
