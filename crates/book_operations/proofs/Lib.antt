@@ -7,6 +7,7 @@ pub mod Kept
 pub mod Lines
 pub mod LostPairs
 pub mod Merged
+pub mod MergedBook
 pub mod Parts
 pub mod Placed
 pub mod Preferences
