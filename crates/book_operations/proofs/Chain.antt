@@ -1,5 +1,5 @@
 -- From line to line of a script.
-use Rattle.std.specs.Prelude.{◌≡◌, ℕ, ◌+◌, List, [], ◌∷◌, ◌++◌, Option, Some, None, Result, Ok, Err, length}
+use Rattle.std.specs.Prelude.{◌≡◌, ℕ, ◌+◌, List, [], ◌∷◌, Option, Some, None, Result, Ok, Err, length}
 use Rattle.std.proofs.Common.{◌∙◌, refl, sym, ap, subst, arith}
 use Rattle.rule_language.specs.declared.book.Book.{Book}
 use Rattle.book_operations.specs.Scripts.{line_child, line_multiplier, Leaves, IsLineFault, Derives, IsFirstRefused, CarriesThrough, BeatsIn, KeepsThrough, KeepsOver}

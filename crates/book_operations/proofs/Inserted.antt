@@ -1,15 +1,15 @@
 -- One rule more in a well-formed book, and further statements.
-use Rattle.std.specs.Prelude.{◌≡◌, ◌≢◌, ℕ, ◌<◌, ◌≤◌, Bool, true, false, not, ◌&&◌, List, [], ◌∷◌, ◌++◌, Option, Some, None, IsTrue, All, length, is_some, take, drop}
+use Rattle.std.specs.Prelude.{◌≡◌, ◌≢◌, ℕ, ◌<◌, ◌≤◌, Bool, false, List, [], ◌∷◌, ◌++◌, IsTrue, All, length, is_some, take, drop}
 use Rattle.std.specs.List.{filter, flat_map, list_all}
 use Rattle.std.specs.Str.{bytes_eq}
-use Rattle.std.proofs.Common.{cond, ◌∙◌, ⊎_elim, refl, sym, ap, subst, zero, suc, arith, get_or}
+use Rattle.std.proofs.Common.{◌∙◌, ⊎_elim, sym, ap, subst, zero, suc, arith, get_or}
 use Rattle.std.proofs.lemmas.Bool.{and_parts, both_ways, cases_Bool, false≢true, cond-true, cond-false}
 use Rattle.std.proofs.lemmas.List.{take-append-drop, get_or_default}
-use Rattle.std.proofs.lemmas.List.Elements.{All-nil, All-cons, All-head, All-tail, All-append, All-weaker, filter-append}
+use Rattle.std.proofs.lemmas.List.Elements.{All-nil, All-cons, All-head, All-tail, All-append, filter-append}
 use Rattle.std.proofs.lemmas.List.Kept.{AllPairs-cons}
 use Rattle.std.proofs.lemmas.Slice.Eq.{bytes_eq-Decides}
 use Rattle.preorder.specs.Statements.{InRange}
-use Rattle.rule_language.specs.Books.{place_of, nameless, IsRule, IsBook}
+use Rattle.rule_language.specs.Books.{place_of, nameless, IsBook}
 use Rattle.rule_language.specs.Names.{AreDifferent}
 use Rattle.rule_language.specs.declared.book.Book.{Book}
 use Rattle.rule_language.specs.declared.book.Rule.{Rule}

@@ -8,6 +8,7 @@ pub mod Lines
 pub mod LostPairs
 pub mod Merged
 pub mod MergedBook
+pub mod MergedSum
 pub mod Parts
 pub mod Placed
 pub mod Preferences

@@ -1,15 +1,13 @@
 -- What a merge makes of a well-formed book is well formed, and its new rule is the sum of those that it merges.
-use Rattle.std.specs.Prelude.{◌≡◌, ◌≢◌, ℕ, ◌*◌, ◌<◌, ◌≤◌, Bool, true, false, not, ◌&&◌, ◌==◌, List, [], ◌∷◌, ◌++◌, Option, Some, None, IsTrue, IfSome, All, length, map, is_some, is_none, take, drop, nat_le}
-use Rattle.std.specs.List.{filter, flat_map, list_all, position}
-use Rattle.std.specs.Fmt.{decimal}
+use Rattle.std.specs.Prelude.{◌≡◌, ◌≢◌, ℕ, ◌<◌, ◌≤◌, Bool, true, false, not, ◌&&◌, ◌==◌, List, [], ◌∷◌, ◌++◌, Option, IsTrue, All, length, map, is_some, is_none, take, drop, nat_le}
+use Rattle.std.specs.List.{filter, list_all, position}
 use Rattle.std.specs.Option.{unwrap_or}
 use Rattle.std.specs.Str.{bytes_eq}
-use Rattle.std.proofs.Common.{cond, ◌∙◌, ⊎_elim, refl, sym, ap, subst, zero, suc, arith, get_or}
-use Rattle.std.proofs.lemmas.Bool.{and_parts, both_ways, cases_Bool, cases_order, false≢true, cond-true, cond-false, not_from_false, not-true, false_from_ne_true}
+use Rattle.std.proofs.Common.{◌∙◌, ⊎_elim, sym, ap, subst, suc, arith, get_or}
+use Rattle.std.proofs.lemmas.Bool.{and_parts, cases_Bool, false≢true, cond-true, cond-false}
 use Rattle.std.proofs.lemmas.Bool.Decides.{nat_tests}
-use Rattle.std.proofs.lemmas.List.{length-append, get_or_default, get_or-append-add, get_or_append_left}
-use Rattle.std.proofs.Math.Seq.{get_or-append_seam}
-use Rattle.std.proofs.lemmas.List.Elements.{All-nil, All-cons, All-append, All-filter, All-weaker}
+use Rattle.std.proofs.lemmas.List.{length-append}
+use Rattle.std.proofs.lemmas.List.Elements.{All-nil, All-cons, All-filter, All-weaker}
 use Rattle.std.proofs.lemmas.List.Kept.{AllPairs-filter}
 use Rattle.std.proofs.lemmas.List.Quantifiers.{position-Some}
 use Rattle.std.proofs.lemmas.Slice.Eq.{bytes_eq-Decides}
@@ -17,21 +15,16 @@ use Rattle.preorder.specs.Name.{is_name}
 use Rattle.preorder.specs.Statements.{InRange}
 use Rattle.expressions.specs.Written.{is_well_formed}
 use Rattle.rule_language.specs.Books.{place_of, nameless, IsRule, IsBook}
-use Rattle.rule_language.specs.Parts.{IsPart, part_fits}
-use Rattle.rule_language.specs.Writing.{name_at}
+use Rattle.rule_language.specs.Parts.{IsPart}
 use Rattle.rule_language.specs.declared.book.Book.{Book}
 use Rattle.rule_language.specs.declared.book.Rule.{Rule}
 use Rattle.rule_language.specs.declared.limits.TheConstants.{MAX_PARTS, MAX_WEIGHT}
 use Rattle.rule_language.specs.declared.part.Part.{Part}
-use Rattle.book_operations.specs.Aggregation.{IsSumBy, IsOneNew, IsAggregation, merged_rules, new_rule}
-use Rattle.book_operations.specs.First.{IsFirst}
-use Rattle.book_operations.specs.Images.{rule_at, is_new, IsNew, image_at}
-use Rattle.book_operations.specs.Merging.{weight_in, factor_in, are_factors, are_known, is_weight, are_weights, is_merged, times_in, given_parts, merged_parts, fits, kept_rules, first_merged, with_new, restated, merged_book}
+use Rattle.book_operations.specs.Images.{rule_at, is_new, image_at}
+use Rattle.book_operations.specs.Merging.{weight_in, factor_in, are_factors, are_known, is_weight, are_weights, is_merged, times_in, given_parts, merged_parts, fits, kept_rules, first_merged, restated, merged_book}
 use Rattle.book_operations.specs.Same.{scaled}
-use Rattle.book_operations.proofs.Factors.{IsFactor, factor}
-use Rattle.book_operations.proofs.Inserted.{all-between, different-between, apart, filter-passes, filter-halves, filter-drops, all-of, all-flat}
-use Rattle.book_operations.proofs.Merged.{one-place}
-use Rattle.book_operations.proofs.Placed.{image-inside, image-named, name-found, option-cases}
+use Rattle.book_operations.proofs.Inserted.{all-between, different-between, apart, filter-halves, filter-drops, all-of, all-flat}
+use Rattle.book_operations.proofs.Placed.{image-inside, option-cases}
 
 -- what the words of a merge and its new rule are, where no fault is found
 pub record IsMerge (words : List (List ℕ)) (book : Book) (new : Rule) : Type 0 where

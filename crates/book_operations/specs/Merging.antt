@@ -1,5 +1,5 @@
 -- What the line `merge NEW W1 A1 W2 A2 ..` makes of a book: rules become one new rule, with their parts and multiplied weights. This project's own text for the aggregations of Censi and others, 2019.
-use Rattle.std.specs.Prelude.{ℕ, min, Bool, true, false, not, ◌&&◌, ◌==◌, List, [], ◌∷◌, ◌++◌, Option, Some, None, Result, Ok, Err, is_some, is_none, option_map, nat_le, nat_lt, length, map, take, drop, if◌then◌else◌}
+use Rattle.std.specs.Prelude.{ℕ, min, Bool, true, false, not, ◌&&◌, ◌==◌, List, [], ◌∷◌, ◌++◌, Option, None, Result, Ok, Err, is_some, is_none, option_map, nat_le, nat_lt, length, map, take, drop, if◌then◌else◌}
 use Rattle.std.specs.Fmt.{decimal}
 use Rattle.std.specs.List.{filter, flat_map, list_all, position}
 use Rattle.std.specs.Option.{unwrap_or}

@@ -2,7 +2,6 @@
 use Rattle.std.specs.Prelude.{◌≡◌, ◌⊎◌, IsTrue, ℕ, ◌+◌, Bool, true, false, not, List, [], ◌∷◌, ◌++◌, Option, Some, None, Result, Ok, Err, is_some, nat_le, nat_lt, length, if◌then◌else◌, codes}
 use Rattle.std.proofs.Common.{zero, suc}
 use Rattle.std.specs.Str.{bytes_eq, is_utf8}
-use Rattle.preorder.specs.Name.{is_name}
 use Rattle.reading.specs.Lines.{lines_of}
 use Rattle.reading.specs.Reading.{◌>>=◌}
 use Rattle.reading.specs.Words.{words}
@@ -10,7 +9,6 @@ use Rattle.expressions.specs.declared.limits.TheConstants.{MAX_LINE}
 use Rattle.rule_language.specs.Books.{place_of, pair_line, part_of}
 use Rattle.rule_language.specs.LineFiles.{content}
 use Rattle.rule_language.specs.declared.book.Book.{Book}
-use Rattle.rule_language.specs.declared.book.Rule.{Rule}
 use Rattle.rule_language.specs.declared.book.BookFault.{BookFault}
 use Rattle.rule_language.specs.declared.book.BookFault.TheVariants as in_book
 use Rattle.rule_language.specs.declared.limits.TheConstants.{MAX_RULES}

@@ -1,4 +1,4 @@
-use Rattle.std.proofs.Common.{◌≡◌, ◌+◌, ◌≤◌, length}
+use Rattle.std.proofs.Common.{◌+◌, ◌≤◌, length}
 use Rattle.reading.specs.Lines.{lines_of}
 use Rattle.rule_language.specs.Books.{IsBook}
 use Rattle.rule_language.specs.declared.book.Book.{Book}
