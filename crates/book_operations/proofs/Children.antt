@@ -17,24 +17,28 @@ use Rattle.rule_language.proofs.BookLaw.{book_again}
 use Rattle.rule_language.proofs.Keeps.{pair_in}
 use Rattle.rule_language.proofs.PartSound.{part_sound}
 use Rattle.rule_language.specs.Books.{place_of, pair, pair_line, above_line, same_line, part_of, IsRule, IsBook, book_of}
+use Rattle.rule_language.specs.LineFiles.{content}
 use Rattle.rule_language.specs.Parts.{IsPart}
 use Rattle.rule_language.specs.Writing.{book_text}
 use Rattle.rule_language.specs.declared.book.Book.{Book}
 use Rattle.rule_language.specs.declared.book.Rule.{Rule}
 use Rattle.rule_language.specs.declared.book.BookFault.{BookFault}
 use Rattle.rule_language.specs.declared.book.BookFault.TheVariants.{Syntax as Unread}
-use Rattle.rule_language.specs.declared.limits.TheConstants.{MAX_RULES, MAX_PARTS}
+use Rattle.rule_language.specs.declared.limits.TheConstants.{MAX_RULES, MAX_PARTS, MAX_WEIGHT}
 use Rattle.rule_language.specs.declared.part.Part.{Part}
 use Rattle.book_operations.specs.Aggregation.{IsAggregation, IsSumBy}
+use Rattle.book_operations.specs.Derivation.{Carries}
 use Rattle.book_operations.specs.Kinds.{IsStep, KeepsAs}
+use Rattle.book_operations.specs.Measures.{IsMeasure, measured}
 use Rattle.book_operations.specs.Merging.{are_factors, are_known, is_weight, are_weights, times_in, merged_parts, fits, merged_book, new_name, with_parts, merge_line}
-use Rattle.book_operations.specs.Scripts.{is_memory, in_script, refine_line, each_above, augmented, augment_line, refine_words, merge_words, augment_words, script_words, words_child, text_child, multiplier, KeepsOver}
-use Rattle.book_operations.specs.Tests.{KeepsPreferencesOf, once}
+use Rattle.book_operations.specs.Scripts.{is_memory, in_script, refine_line, each_above, augmented, augment_line, refine_words, merge_words, augment_words, script_words, words_child, text_child, multiplier, line_child, line_multiplier, KeepsOver}
+use Rattle.book_operations.specs.Tests.{KeepsPreferencesOf, becomes, once, size_of}
 use Rattle.book_operations.specs.declared.fault.DeriveFault.{DeriveFault}
 use Rattle.book_operations.specs.declared.fault.DeriveFault.TheVariants.{Syntax, UnknownRule, DuplicateName, BadWeight, TooManyRules, TooManyParts}
 use Rattle.book_operations.specs.declared.kind.Accepted.TheVariants.{Refinement, Aggregation, Augmentation}
 use Rattle.book_operations.specs.declared.steps.Child.{Child}
 use Rattle.book_operations.proofs.Inserted.{all-between, different-between, apart, with-more}
+use Rattle.book_operations.proofs.Measured.{kept-measured, merged-measured}
 use Rattle.book_operations.proofs.MergedBook.{IsMerge, merged-is-book}
 use Rattle.book_operations.proofs.MergedSum.{merged-is-sum}
 
@@ -91,8 +95,8 @@ each-in : (size new count : ℕ) → count ≤ size → new < size → All (InRa
 each-in size new zero le h = All-nil (InRange size)
 each-in size new (suc r) le h = All-append (InRange size) (each_above new r) ((r, new) ∷ []) (each-in size new r (omega (arith, le)) h) (All-cons (InRange size) (r, new) [] (omega (arith, le), h) (All-nil (InRange size)))
 
-weight-from : (w : ℕ) → IsTrue (is_weight w) → (1 ≤ w) × (w ≤ 1000000)
-weight-from w h = let g = and_parts (nat_le 1 w) (nat_le w 1000000) h in (grind (arith, nat_tests, g.0), grind (arith, nat_tests, g.1))
+weight-from : (w : ℕ) → IsTrue (is_weight w) → (1 ≤ w) × (w ≤ MAX_WEIGHT)
+weight-from w h = let g = and_parts (nat_le 1 w) (nat_le w MAX_WEIGHT) h in (grind (arith, nat_tests, g.0), grind (arith, nat_tests, g.1))
 
 augmented-is-book : (name : List ℕ) (part : Part) (book : Book) → IsBook book → IsTrue (is_name name) → IsPart name part → is_some (place_of name book.rules) ≡ false → length book.rules < MAX_RULES → IsBook (augmented name part book)
 augmented-is-book name part book is named fit fresh few =
@@ -206,9 +210,13 @@ merge-makes n name words book =
 
 -- ---- children
 
-record Made (book : Book) (times : List ℕ → ℕ) (child : Child) : Type 0 where
-  is_book : IsBook child.book
-  keeps : IsStep book child.book child.kind → KeepsAs book child.book child.kind → KeepsPreferencesOf book child.book times
+abbrev pub CarriesBy : Book → Book → (List ℕ → ℕ) → (Part → ℕ) → Type 0
+CarriesBy book child times amount = Carries (size_of book) (size_of child) (becomes book child times) (measured amount book) (measured amount child)
+
+pub record Made (book : Book) (times : List ℕ → ℕ) (child : Child) : Type 0 where
+  pub is_book : IsBook child.book
+  pub keeps : IsStep book child.book child.kind → KeepsAs book child.book child.kind → KeepsPreferencesOf book child.book times
+  pub measures : IsStep book child.book child.kind → (amount : Part → ℕ) → IsMeasure amount → Carries (size_of book) (size_of child.book) (becomes book child.book times) (measured amount book) (measured amount child.book)
 
 multiplier-once : (kind : List ℕ) (words : List (List ℕ)) → bytes_eq kind (codes "merge") ≡ false → once ≡ multiplier (kind ∷ words)
 multiplier-once kind [] e = refl
@@ -218,13 +226,20 @@ multiplier-merge : (kind new : List ℕ) (words : List (List ℕ)) → bytes_eq 
 multiplier-merge kind new words e = ap (λ (t : Bool). cond t (times_in words) once) (sym e)
 
 module _ (n : ℕ) (book : Book) (is : IsBook book) (times : List ℕ → ℕ) where
+  sum-of : (words : List (List ℕ)) (child : Book) → Merges words book child → IsAggregation book child → IsSumBy book child (times_in words)
+  sum-of words child makes = subst (λ (b : Book). IsAggregation book b → IsSumBy book b (times_in words)) makes.is (merged-is-sum words book makes.new is makes.merge)
+
   refine-made : once ≡ times → (words : List (List ℕ)) → Reads (Made book times) (refine_words n words book)
   refine-made same [] = refuses (Made book times) (Syntax n)
   refine-made same (a ∷ []) = refuses (Made book times) (Syntax n)
   refine-made same (a ∷ b ∷ []) = refuses (Made book times) (Syntax n)
   refine-made same (a ∷ b ∷ c ∷ []) = followed (Made book times) (refine_line n a b c book) _ (λ child e.
       gives (Made book times) (record { kind = Refinement; book = child })
-      (record { is_book = refine-is-book n a b c book is child e; keeps = λ step keeps. subst (λ (t : List ℕ → ℕ). KeepsPreferencesOf book child t) same keeps }))
+      (record {
+        is_book = refine-is-book n a b c book is child e;
+        keeps = λ step keeps. subst (λ (t : List ℕ → ℕ). KeepsPreferencesOf book child t) same keeps;
+        measures = λ step amount measure. subst (λ (t : List ℕ → ℕ). CarriesBy book child t amount) same (kept-measured book child is (refine-is-book n a b c book is child e) step.kept amount);
+      }))
   refine-made same (a ∷ b ∷ c ∷ d ∷ words) = refuses (Made book times) (Syntax n)
 
   augment-made : once ≡ times → (words : List (List ℕ)) → Reads (Made book times) (augment_words n words book)
@@ -232,7 +247,11 @@ module _ (n : ℕ) (book : Book) (is : IsBook book) (times : List ℕ → ℕ) w
   augment-made same (a ∷ []) = refuses (Made book times) (Syntax n)
   augment-made same (a ∷ b ∷ words) = followed (Made book times) (augment_line n a b words book) _ (λ child e.
       gives (Made book times) (record { kind = Augmentation; book = child })
-      (record { is_book = augment-is-book n a b words book is child e; keeps = λ step keeps. subst (λ (t : List ℕ → ℕ). KeepsPreferencesOf book child t) same keeps }))
+      (record {
+        is_book = augment-is-book n a b words book is child e;
+        keeps = λ step keeps. subst (λ (t : List ℕ → ℕ). KeepsPreferencesOf book child t) same keeps;
+        measures = λ step amount measure. subst (λ (t : List ℕ → ℕ). CarriesBy book child t amount) same (kept-measured book child is (augment-is-book n a b words book is child e) step.kept amount);
+      }))
 
   merge-made : (name : List ℕ) (words : List (List ℕ)) → times_in words ≡ times → Reads (Made book times) (merge_words n (name ∷ words) book)
   merge-made name words same = followed (Made book times) (merge_line n name words book) _ (λ child e.
@@ -242,7 +261,10 @@ module _ (n : ℕ) (book : Book) (is : IsBook book) (times : List ℕ → ℕ) w
         is_book = subst IsBook makes.is (merged-is-book words book makes.new is makes.merge);
         keeps = λ step keeps.
             subst (λ (t : List ℕ → ℕ). KeepsPreferencesOf book child t) same
-            (keeps (times_in words) (subst (λ (b : Book). IsAggregation book b → IsSumBy book b (times_in words)) makes.is (merged-is-sum words book makes.new is makes.merge) step));
+            (keeps (times_in words) (sum-of words child makes step));
+        measures = λ step amount measure.
+            subst (λ (t : List ℕ → ℕ). CarriesBy book child t amount) same
+            (merged-measured book child is (subst IsBook makes.is (merged-is-book words book makes.new is makes.merge)) step.rules (times_in words) (sum-of words child makes step) amount measure);
       }))
 
 words-made : (n : ℕ) (words : List (List ℕ)) (book : Book) → IsBook book → Reads (Made book (multiplier words)) (script_words n words book)
@@ -287,6 +309,9 @@ pub over-child : (n len : ℕ) (text : List ℕ) (book : Book) (child : Child) �
 over-child n len text book child is e step keeps =
     subst (λ (made : Result (Option Child) DeriveFault). KeepsOver book (multiplier (words text)) made child.book) (sym e)
     ((child-made n (words text) book child is (within (nat_lt MAX_LINE len) n (words_child n (words text) book) child e)).keeps step keeps)
+
+pub child-of_line : (n : ℕ) (line : List ℕ) (book : Book) (child : Child) → IsBook book → line_child n line book ≡ Ok (Some child) → Made book (line_multiplier line) child
+child-of_line n line book child is e = child-made n (words (content line)) book child is (within (nat_lt MAX_LINE (length line)) n (words_child n (words (content line)) book) child e)
 
 pub read-again : (derived : Result Book DeriveFault) → IfOk derived IsBook → IfOk derived (λ book. book_of (book_text book) ≡ Ok book)
 read-again (Ok book) is = book_again book is

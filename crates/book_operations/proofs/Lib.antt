@@ -1,4 +1,5 @@
 pub mod Added
+pub mod Carried
 pub mod Chain
 pub mod Children
 pub mod Factors
@@ -7,6 +8,7 @@ pub mod Kept
 pub mod Lines
 pub mod LostPairs
 pub mod Merged
+pub mod Measured
 pub mod MergedBook
 pub mod MergedSum
 pub mod Parts

@@ -3,6 +3,7 @@ pub mod Derivation
 pub mod First
 pub mod Images
 pub mod Kinds
+pub mod Measures
 pub mod Merging
 pub mod Same
 pub mod Scripts

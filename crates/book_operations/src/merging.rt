@@ -3,6 +3,7 @@ ghost use Rattle.std.specs.List.{flat_map, position};
 ghost use Rattle.preorder.specs.Statements.{InRange};
 ghost use Rattle.reading.specs.Reading.{Gives};
 ghost use Rattle.rule_language.specs.Books.{IsBook, IsRule};
+ghost use Rattle.rule_language.specs.declared.limits.TheConstants.{MAX_WEIGHT as LARGEST};
 ghost use Rattle.rule_language.specs.declared.part.Part.{Part};
 ghost use Rattle.book_operations.specs.Images.{AreImages, is_new};
 ghost use Rattle.book_operations.specs.Merging.{factor_in, are_factors, are_known, is_weight, are_weights, is_merged, given_parts, merged_parts, fits, kept_rules, first_merged, with_new, restated, merged_book, new_name, with_parts, merge_line, weight_in};
@@ -86,7 +87,7 @@ fn are_weights(words: &[&[u8]]) -> bool
 // The factor of the rule of this name, which is not too large where no weight is.
 fn small_factor(words: &[&[u8]], name: &[u8]) -> Option<u64>
     requires { IsTrue (are_weights (map (λ w. w.now) words.now)) }
-    ensures small { IfSome result (λ times. times ≤ 1000000) }
+    ensures small { IfSome result (λ times. times ≤ LARGEST) }
     ensures exact { result ≡ factor_in (map (λ w. w.now) words.now) name.now }
 {
     factor_in(words, name)
@@ -98,8 +99,8 @@ fn push_scaled(
     times: u64,
     part: &Part,
 ) -> Result<(), NoMemory>
-    requires weight { part.now.weight ≤ 1000000 }
-    requires times { times ≤ 1000000 }
+    requires weight { part.now.weight ≤ LARGEST }
+    requires times { times ≤ LARGEST }
     ensures { OnOk result (parts.new ≡ parts.old ++ scaled times part.now ∷ []) }
 {
     let mut copy = copy_part(alloc, part)?;
@@ -114,8 +115,8 @@ fn push_all_scaled(
     times: u64,
     all: &[Part],
 ) -> Result<(), NoMemory>
-    requires weights { All (λ (part : Part). part.weight ≤ 1000000) all.now }
-    requires times { times ≤ 1000000 }
+    requires weights { All (λ (part : Part). part.weight ≤ LARGEST) all.now }
+    requires times { times ≤ LARGEST }
     ensures { OnOk result (parts.new ≡ parts.old ++ map (scaled times) all.now) }
 {
     for part in all {

@@ -1,11 +1,13 @@
-ghost use Rattle.std.specs.Prelude.{◌≡◌, ◌+◌, ◌<◌, ◌≤◌, Ok, length, IfOk, IfErr, IfSome, OnOk, map};
+ghost use Rattle.std.specs.Prelude.{◌≡◌, ℕ, ◌+◌, ◌<◌, ◌≤◌, Ok, length, IfOk, IfErr, IfSome, OnOk, map};
 ghost use Rattle.std.specs.Bool.{OnFalse};
 ghost use Rattle.reading.specs.Lines.{lines_of};
 ghost use Rattle.reading.specs.Reading.{Gives};
 ghost use Rattle.reading.specs.Words.{words};
 ghost use Rattle.rule_language.specs.Books.{IsBook, book_of};
 ghost use Rattle.rule_language.specs.Writing.{book_text};
-ghost use Rattle.book_operations.specs.Scripts.{is_memory, words_child, text_child, multiplier, Leaves, IsLineFault, Derives, IsFirstRefused, IsDerivedBy, IsScriptFault, KeepsThrough, KeepsOver};
+ghost use Rattle.book_operations.specs.Scripts.{is_memory, words_child, text_child, multiplier, Leaves, IsLineFault, Derives, IsFirstRefused, IsDerivedBy, IsScriptFault, CarriesThrough, KeepsThrough, KeepsOver};
+ghost use Rattle.book_operations.specs.Measures.{IsMeasure, measured};
+ghost use Rattle.rule_language.specs.declared.part.Part.{Part};
 ghost use Rattle.book_operations.specs.declared.steps.Child.{Child};
 
 use crate::fault::DeriveFault;
@@ -104,6 +106,10 @@ pub fn apply_script(alloc: Global, parent: &Book, script: &[u8]) -> Result<Book,
 
     // What is derived keeps the parent's preferences, through every line.
     ensures keeps { IfOk result (KeepsThrough 1 (lines_of script.now) parent.now) }
+
+    // It is so of whatever is measured of parts in proportion to their weights, as the vectors of trajectories are: what is
+    // measured of the derived book carries what is measured of the parent.
+    ensures measures { IfOk result (λ book. (amount : Part → ℕ) → IsMeasure amount → CarriesThrough 1 (lines_of script.now) parent.now (measured amount parent.now) (measured amount book)) }
 
     ensures well_formed { IfOk result IsBook }
 

@@ -258,7 +258,7 @@ const PAIR_TEXT: &[u8] =
 #[test]
 fn scripts_derive_books(rt: HostRuntime) -> Result<(), Fail> {
     let at = rt.alloc();
-    let rows: [(&[u8], &[u8], &[u8]); 6] = [
+    let rows: [(&[u8], &[u8], &[u8]); 7] = [
         (
             PAIR,
             b"merge m 2 a 3 b\naugment calm 1 abs(accel)\n",
@@ -285,6 +285,11 @@ fn scripts_derive_books(rt: HostRuntime) -> Result<(), Fail> {
             b"rule x\nrule m\npart m 1 overlaps\npart m 1 off_road\nrule y\nabove x m\nabove m y\nabove x x\n",
         ),
         (PAIR, b"", PAIR_TEXT),
+        (
+            b"rule collision\npart collision 1 overlaps\nrule road\npart road 1 off_road\nrule speed\npart speed 1 max(0, speed - 13900)\n",
+            b"refine same collision road\nrefine above collision speed\nmerge harm 2 collision 1 road\naugment calm 1 abs(accel)\n",
+            b"rule harm\npart harm 2 overlaps\npart harm 1 off_road\nrule speed\npart speed 1 max(0, (speed - 13900))\nrule calm\npart calm 1 abs(accel)\nabove harm speed\nabove harm calm\nabove speed calm\n",
+        ),
     ];
     for (parent, script, text) in rows {
         assert!(rt; derives(at, parent, script, text)?);
