@@ -1,8 +1,7 @@
 -- What is measured of a book is carried through the lines of a script by what is measured of the book that they derive.
 use Rattle.std.specs.Prelude.{◌≡◌, ℕ, ◌+◌, List, [], ◌∷◌, Option, Some, None, Result, Ok, Err, IfOk}
-use Rattle.std.proofs.Common.{◌∙◌, refl, sym, ap, subst}
+use Rattle.std.proofs.Common.{refl, ap, subst}
 use Rattle.std.proofs.lemmas.Result.{IfOk-weaker}
-use Rattle.reading.specs.Lines.{lines_of}
 use Rattle.rule_language.specs.Books.{IsBook}
 use Rattle.rule_language.specs.declared.book.Book.{Book}
 use Rattle.rule_language.specs.declared.part.Part.{Part}

@@ -7,7 +7,7 @@ use Rattle.book_operations.specs.declared.fault.DeriveFault.{DeriveFault}
 use Rattle.book_operations.specs.declared.steps.Child.{Child}
 
 -- a line leaves one book
-one-left : (book : Book) (made : Result (Option Child) DeriveFault) (c d : Book) → Leaves book made c → Leaves book made d → c ≡ d
+pub one-left : (book : Book) (made : Result (Option Child) DeriveFault) (c d : Book) → Leaves book made c → Leaves book made d → c ≡ d
 one-left book (Ok None) c d h k = sym h ∙ k
 one-left book (Ok (Some child)) c d h k = sym h.0 ∙ k.0
 one-left book (Err fault) c d h k = absurd h

@@ -1,5 +1,5 @@
 -- What is measured of a book is carried by what is measured of its child.
-use Rattle.std.specs.Prelude.{◌≡◌, ◌≢◌, ℕ, ◌+◌, ◌*◌, ◌<◌, ◌≤◌, Bool, true, false, List, [], ◌∷◌, ◌++◌, IsTrue, length, map, take, slice_index, nat_eq}
+use Rattle.std.specs.Prelude.{◌≡◌, ℕ, ◌+◌, ◌*◌, ◌<◌, ◌≤◌, Bool, true, false, List, [], ◌∷◌, length, map, take, slice_index}
 use Rattle.std.specs.List.{filter, flat_map, sum_by}
 use Rattle.std.proofs.Common.{cond, ◌∙◌, ⊎_elim, refl, sym, ap, subst, zero, suc, arith}
 use Rattle.std.proofs.lemmas.Bool.{both_ways, cases_Bool, cond-true, cond-false}
@@ -11,7 +11,7 @@ use Rattle.rule_language.specs.Writing.{name_at}
 use Rattle.rule_language.specs.declared.book.Book.{Book}
 use Rattle.rule_language.specs.declared.book.Rule.{Rule}
 use Rattle.rule_language.specs.declared.part.Part.{Part}
-use Rattle.book_operations.specs.Aggregation.{IsAggregation, IsSumBy, IsOneNew, MergesRules, new_rule}
+use Rattle.book_operations.specs.Aggregation.{IsSumBy, MergesRules}
 use Rattle.book_operations.specs.Derivation.{share, Carries}
 use Rattle.book_operations.specs.Images.{rule_at, HasEqual, is_new, IsNew}
 use Rattle.book_operations.specs.Measures.{IsMeasure, rule_amount, measured}

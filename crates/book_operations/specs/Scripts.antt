@@ -138,9 +138,10 @@ pub record IsFirstRefused (n : ℕ) (lines : List (List ℕ)) (book : Book) (fau
   pub fine : Derives n before book so_far
   pub refused : IsLineFault so_far (line_child (n + length before) line so_far) fault
 
--- a script of these bytes derives the last book from the first
-abbrev pub IsDerivedBy : List ℕ → Book → Book → Type 0
-IsDerivedBy script first last = Derives 1 (lines_of script) first last
+-- a script of these bytes, which are UTF-8, derives the last book from the first
+pub record IsDerivedBy (script : List ℕ) (first last : Book) : Type 0 where
+  pub utf8 : IsTrue (is_utf8 script)
+  pub derives : Derives 1 (lines_of script) first last
 
 -- the first fault of a script; one that is not UTF-8 has a first line that is none
 abbrev pub IsScriptFault : List ℕ → Book → DeriveFault → Type 0
