@@ -2,7 +2,7 @@ pub mod Added
 pub mod Carried
 pub mod Chain
 pub mod Children
-pub mod Factors
+pub mod SmallFactors
 pub mod Inserted
 pub mod Kept
 pub mod Lines

@@ -16,7 +16,7 @@ use Rattle.book_operations.specs.Aggregation.{IsSumBy, IsOneNew, IsAggregation, 
 use Rattle.book_operations.specs.Images.{rule_at, is_new, IsNew, image_at}
 use Rattle.book_operations.specs.Merging.{factor_in, is_merged, times_in, merged_parts, kept_rules, first_merged, merged_book}
 use Rattle.book_operations.specs.Same.{scaled}
-use Rattle.book_operations.proofs.Factors.{IsFactor, factor}
+use Rattle.book_operations.proofs.SmallFactors.{IsFactor, factor}
 use Rattle.book_operations.proofs.Inserted.{all-between, apart, filter-passes, filter-halves}
 use Rattle.book_operations.proofs.Merged.{one-place}
 use Rattle.book_operations.proofs.MergedBook.{IsMerge}

@@ -6,6 +6,7 @@
 
 mod aggregation;
 mod augmentation;
+mod factors;
 mod fault;
 mod images;
 mod kind;

@@ -13,85 +13,12 @@ ghost use Rattle.std.specs.List.{list_all};
 ghost use Rattle.std.specs.Str.{bytes_eq};
 ghost use Rattle.std.specs.Option.{unwrap_or};
 
+use crate::factors::{are_factors, are_known, are_weights, is_merged, is_weight, small_factor};
 use crate::fault::DeriveFault;
 use crate::images::{first_new, images_of, place_of};
 use preorder::{List, Name, NoMemory};
-use reading::number_in;
-use rule_language::{Book, MAX_PARTS, MAX_WEIGHT, Part, Rule, copy_part, copy_rule, written_fits};
+use rule_language::{Book, MAX_PARTS, Part, Rule, copy_part, copy_rule, written_fits};
 use std::alloc::Global;
-
-fn same_word(word: &[u8], other: &[u8]) -> bool
-    ensures { result ≡ bytes_eq word.now other.now }
-{
-    word == other
-}
-
-// By what the words `W1 A1 W2 A2 ..` multiply the rule of this name.
-fn factor_in(words: &[&[u8]], name: &[u8]) -> Option<u64>
-    ensures { result ≡ factor_in (map (λ w. w.now) words.now) name.now }
-{
-    match words {
-        [weight, other, _words @ ..] if same_word(other, name) => number_in(weight),
-        [_weight, _other, words @ ..] => factor_in(words, name),
-        _ => None,
-    }
-}
-
-// Whether the words are weights and names in turn, and no name stands twice.
-fn are_factors(words: &[&[u8]]) -> bool
-    ensures { result ≡ are_factors (map (λ w. w.now) words.now) }
-{
-    match words {
-        [] => true,
-        [_weight] => false,
-        [weight, name, words @ ..] => {
-            number_in(weight).is_some()
-                && Name::new(name).is_some()
-                && factor_in(words, name).is_none()
-                && are_factors(words)
-        }
-    }
-}
-
-fn are_known(rules: &[Rule], words: &[&[u8]]) -> bool
-    ensures { result ≡ are_known rules.now (map (λ w. w.now) words.now) }
-{
-    match words {
-        [_weight, name, words @ ..] => place_of(rules, name).is_some() && are_known(rules, words),
-        _ => true,
-    }
-}
-
-/// Whether it is from 1 to `MAX_WEIGHT`.
-pub fn is_weight(weight: u64) -> bool
-    ensures { result ≡ is_weight weight }
-{
-    1 <= weight && weight <= MAX_WEIGHT
-}
-
-fn weight_or_none(word: &[u8]) -> u64
-    ensures { result ≡ unwrap_or (weight_in word.now) 0 }
-{
-    number_in(word).unwrap_or(0)
-}
-
-fn are_weights(words: &[&[u8]]) -> bool
-    ensures { result ≡ are_weights (map (λ w. w.now) words.now) }
-{
-    match words {
-        [weight, _name, words @ ..] => is_weight(weight_or_none(weight)) && are_weights(words),
-        _ => true,
-    }
-}
-
-// The factor of the rule of this name, which is not too large where no weight is.
-fn small_factor(words: &[&[u8]], name: &[u8]) -> Option<u64>
-    requires { IsTrue (are_weights (map (λ w. w.now) words.now)) }
-    ensures small { IfSome result (λ times. times ≤ LARGEST) }
-    ensures exact { result ≡ factor_in (map (λ w. w.now) words.now) name.now }
-{
-    factor_in(words, name)
-}
 
 fn push_scaled(
     alloc: Global,
@@ -153,12 +80,6 @@ fn merged_parts(alloc: Global, words: &[&[u8]], rules: &[Rule]) -> Result<List<P
         push_given(alloc, &mut parts, words, rule)?;
     }
     Ok(parts)
-}
-
-fn is_merged(words: &[&[u8]], rule: &Rule) -> bool
-    ensures { result ≡ is_merged (map (λ w. w.now) words.now) rule.now }
-{
-    factor_in(words, rule.name.as_slice()).is_some()
 }
 
 fn position_merged(words: &[&[u8]], rules: &[Rule]) -> Option<usize>

@@ -4,10 +4,11 @@ ghost use Rattle.rule_language.specs.Books.{IsBook, part_of};
 ghost use Rattle.book_operations.specs.Scripts.{is_memory, in_script, refine_line, each_above, augmented, augment_line, refine_words, merge_words, augment_words, script_words};
 ghost use Rattle.rule_language.specs.declared.part.Part.{Part};
 
+use crate::factors::is_weight;
 use crate::fault::{DeriveFault, line_fault};
 use crate::images::place_of;
 use crate::kind::Accepted;
-use crate::merging::{is_weight, merged};
+use crate::merging::merged;
 use preorder::{List, Name, NoMemory};
 use rule_language::{Book, MAX_RULES, Part, Rule, copy_book, part_of};
 use std::alloc::Global;
