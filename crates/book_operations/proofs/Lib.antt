@@ -1,7 +1,17 @@
 pub mod Added
+pub mod Carried
+pub mod Chain
+pub mod Children
+pub mod SmallFactors
+pub mod Inserted
 pub mod Kept
+pub mod Lines
 pub mod LostPairs
 pub mod Merged
+pub mod Measured
+pub mod MergedBook
+pub mod MergedSum
+pub mod Outcomes
 pub mod Parts
 pub mod Placed
 pub mod Preferences

@@ -82,15 +82,13 @@ sum-counted parent child times sum r h =
     (cases_Bool (is_new child.rules (rule_at parent.rules r)))
 
 module _ (parent child : Book) (book : IsBook parent) (child_book : IsBook child) (merges : MergesRules parent.rules child.rules) where
-  one : IsOneNew child.rules parent.rules
+  abbrev pub one : IsOneNew child.rules parent.rules
   one = merges.new
 
-  merged-image : (r : ℕ) → IsNew parent.rules child.rules r → image parent child r ≡ one.new
-  unfolding one
+  pub merged-image : (r : ℕ) → IsNew parent.rules child.rules r → image parent child r ≡ one.new
   merged-image r new = image-new parent.rules child.rules r new ∙ one-place child.rules parent.rules merges.new
 
-  kept-image : (r : ℕ) → r < size_of parent → ¬ IsNew parent.rules child.rules r → image parent child r ≡ one.new → ⊥
-  unfolding one
+  pub kept-image : (r : ℕ) → r < size_of parent → ¬ IsNew parent.rules child.rules r → image parent child r ≡ one.new → ⊥
   kept-image r h old e =
       let at = image-named parent.rules child.rules r old in
       name-found child.rules parent.rules one.new r h (sym at.1 ∙ ap (name_at child.rules) e) one.first.holds
@@ -111,7 +109,6 @@ module _ (parent child : Book) (book : IsBook parent) (child_book : IsBook child
 
   -- each rule of the child is what one of the parent's becomes
   pub merge-adds_none : OthersAreLowest parent child
-  unfolding one
   merge-adds_none c old hc ho added =
       ⊎_elim
       (λ new.

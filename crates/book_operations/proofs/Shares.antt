@@ -10,10 +10,10 @@ use Rattle.book_operations.specs.Derivation.{Derivation, share, Carries}
 use Rattle.book_operations.specs.SumBelow.{sum_below, sum_below-lt, sum_below-found}
 
 module _ (derivation : Derivation) (x y : List ℕ) (c k : ℕ) where
-  share-here : (z : List ℕ) → derivation.image k ≡ c → share derivation z c k ≡ derivation.times k * slice_index z k
+  pub share-here : (z : List ℕ) → derivation.image k ≡ c → share derivation z c k ≡ derivation.times k * slice_index z k
   share-here z e = cond-true {A = ℕ} (nat_eq (derivation.image k) c) _ 0 (eq-eqb _ _ e)
 
-  share-elsewhere : (z : List ℕ) → nat_eq (derivation.image k) c ≡ false → share derivation z c k ≡ 0
+  pub share-elsewhere : (z : List ℕ) → nat_eq (derivation.image k) c ≡ false → share derivation z c k ≡ 0
   share-elsewhere z e = cond-false {A = ℕ} (nat_eq (derivation.image k) c) _ 0 e
 
   share-le : (derivation.image k ≡ c → slice_index x k ≤ slice_index y k) → share derivation x c k ≤ share derivation y c k
@@ -72,7 +72,7 @@ module _ (size child_size : ℕ) (derivation : Derivation) (x : List ℕ) where
       ∙ sum_below-none (share derivation x c) size (λ k hk. ⊎_elim (λ e. absurd (added k hk e.1)) (λ ne. share-elsewhere derivation x x c k x ne.0) (eqb_tells (derivation.image k) c))
 
 -- a sum of one summand
-sum_below-one : (f : ℕ → ℕ) (r n : ℕ) → r < n → ((k : ℕ) → k < n → (k ≡ r → ⊥) → f k ≡ 0) → sum_below f n ≡ f r
+pub sum_below-one : (f : ℕ → ℕ) (r n : ℕ) → r < n → ((k : ℕ) → k < n → (k ≡ r → ⊥) → f k ≡ 0) → sum_below f n ≡ f r
 sum_below-one f r zero inside h = absurd (omega (arith, inside))
 sum_below-one f r (suc n) inside h =
     ⊎_elim (λ (e : r ≡ n). omega (arith, sum_below-none n (λ k lt. h k (omega (arith, lt)) (λ is. omega (arith, is, e, lt))), same_at r n e))

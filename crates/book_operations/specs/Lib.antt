@@ -3,7 +3,10 @@ pub mod Derivation
 pub mod First
 pub mod Images
 pub mod Kinds
+pub mod Measures
+pub mod Merging
 pub mod Same
+pub mod Scripts
 pub mod Summing
 pub mod SumBelow
 pub mod Tests

@@ -10,9 +10,9 @@ use preorder::{List, NoMemory};
 use rule_language::{Named, Rule};
 use std::alloc::Global;
 
-// The place of the rule of this name.
+/// The place of the rule of this name.
 #[tactic(auto, unfolding(rule_language::specs::Books::place_of))]
-fn place_of(rules: &[Rule], name: &[u8]) -> Option<usize>
+pub fn place_of(rules: &[Rule], name: &[u8]) -> Option<usize>
     ensures inside { IfSome result (λ i. i < length rules.now) }
     ensures exact { result ≡ place_of name.now rules.now }
 {

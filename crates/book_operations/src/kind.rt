@@ -46,8 +46,13 @@ fn kind_of(parent: &Book, child: &Book) -> Accepted
     }
 }
 
-// The test of this kind.
-fn test_kind(alloc: Global, kind: Accepted, parent: &Book, child: &Book) -> Result<(), DeriveFault>
+/// The test of this kind.
+pub fn test_kind(
+    alloc: Global,
+    kind: Accepted,
+    parent: &Book,
+    child: &Book,
+) -> Result<(), DeriveFault>
     requires parent { IsBook parent.now }
     requires child { IsBook child.now }
     ensures accepts { OnOk result (IsStep parent.now child.now kind) }

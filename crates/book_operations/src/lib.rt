@@ -6,12 +6,17 @@
 
 mod aggregation;
 mod augmentation;
+mod factors;
 mod fault;
 mod images;
 mod kind;
+mod laws;
+mod merging;
 mod pairs;
 mod refinement;
 mod same;
+mod script;
+mod steps;
 mod sum;
 #[cfg(test)]
 mod tests;
@@ -20,4 +25,6 @@ pub use aggregation::test_aggregation;
 pub use augmentation::test_augmentation;
 pub use fault::DeriveFault;
 pub use kind::{Accepted, accept};
+pub use laws::one_outcome;
 pub use refinement::test_refinement;
+pub use script::apply_script;

@@ -143,7 +143,7 @@ rule_keeps n name b k =
       truth true e = refl
       truth false e = absurd cc
 
-pair_in : (n : ℕ) (x y : List ℕ) (rules : List Rule) (p : ℕ × ℕ) → pair n x y rules ≡ Ok p → InRange (length rules) p
+pub pair_in : (n : ℕ) (x y : List ℕ) (rules : List Rule) (p : ℕ × ℕ) → pair n x y rules ≡ Ok p → InRange (length rules) p
 unfolding pair
 pair_in n x y rules p e = at (not (is_name x && is_name y)) e where
   second : (i : ℕ) → i < length rules → (r : Result ℕ BookFault) → known n y rules ≡ r → (r >>= λ j. Ok (i, j)) ≡ Ok p → InRange (length rules) p

@@ -119,9 +119,10 @@ fn expr_of(alloc: Global, number: usize, words: &[&[u8]]) -> Result<Expr, BookFa
     }
 }
 
-// The part of a line, by its words after the kind.
+/// The part of a line, by its words after the kind. `number` is that of the line. `Syntax` where the name or the weight has not its
+/// form, the words of the expression spell none, or the part does not fit its written line.
 #[tactic(auto, unfolding(crate::specs::Books::part_of))]
-fn part_of(
+pub fn part_of(
     alloc: Global,
     number: usize,
     at_end: bool,
@@ -213,8 +214,9 @@ impl Book {
         self.add_part(number, place, part)
     }
 
+    /// Adds the statements of a line of this kind, `above` or `same`, on the rules of two names. `number` is that of the line.
     #[tactic(auto, unfolding(crate::specs::Books::pair_line))]
-    fn add_pair(&mut self, number: usize, kind: &[u8], a: &[u8], b: &[u8]) -> Result<(), BookFault>
+    pub fn add_pair(&mut self, number: usize, kind: &[u8], a: &[u8], b: &[u8]) -> Result<(), BookFault>
         ensures { Gives is_memory (λ _. self.new) result (pair_line number kind.now a.now b.now self.old) }
     {
         if kind == b"above".as_slice() {

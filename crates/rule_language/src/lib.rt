@@ -15,8 +15,8 @@ mod table;
 mod tests;
 mod writing;
 
-pub use book::{Book, BookFault, Rule, read_book};
-pub use copying::copy_book;
+pub use book::{Book, BookFault, Rule, part_of, read_book};
+pub use copying::{copy_book, copy_part, copy_rule};
 pub use expressions::{Argument, Expr, ExprFault, read_expr};
 pub use limits::{MAX_PARTS, MAX_ROWS, MAX_RULES, MAX_TABLE_VALUE, MAX_WEIGHT};
 pub use line_file::{LineReader, cut_line, read_all};

@@ -1,0 +1,8 @@
+use Rattle.book_operations.proofs.Outcomes.{one-book, no-fault}
+use Rattle.book_operations.proofs.laws.one_outcome.Goals as goal
+
+pub returns-clause-one_book : goal.returns-clause-one_book
+returns-clause-one_book c = one-book
+
+pub returns-clause-no_fault : goal.returns-clause-no_fault
+returns-clause-no_fault c = no-fault
