@@ -11,6 +11,7 @@ pub mod Merged
 pub mod Measured
 pub mod MergedBook
 pub mod MergedSum
+pub mod OneFault
 pub mod Outcomes
 pub mod Parts
 pub mod Placed

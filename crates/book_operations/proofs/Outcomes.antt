@@ -21,7 +21,7 @@ use Rattle.book_operations.proofs.Merged.{first-unique}
 -- ---- what a test accepts it does not refuse
 
 module _ (parent child : Book) where
-  not-lost : KeepsStrictPairs parent child → (a b x y : List ℕ) → NamesLost parent child a b x y → ⊥
+  pub not-lost : KeepsStrictPairs parent child → (a b x y : List ℕ) → NamesLost parent child a b x y → ⊥
   not-lost strict a b x y lost = lost.first.column.holds.1 (strict lost.upper lost.lower lost.first.row lost.first.column.inside lost.first.column.holds.0)
 
   refinement-once : IsRefinement parent child → (fault : DeriveFault) → is_memory fault ≡ false → IsRefinementFault parent child fault → ⊥
@@ -39,7 +39,7 @@ module _ (parent child : Book) where
   augmentation-once is NoMemory m f = absurd cc
   augmentation-once is _ m f = f
 
-  rules-once : (rules others : List Rule) → MergesRules rules others → (name : List ℕ) → DiffersInRules rules others (RulesDiffer name) → ⊥
+  pub rules-once : (rules others : List Rule) → MergesRules rules others → (name : List ℕ) → DiffersInRules rules others (RulesDiffer name) → ⊥
   rules-once rules others merges name f =
       ⊎_elim
       (λ few. ⊎_elim (λ not_two. not_two merges.merged) (λ none. none merges.new.new merges.new.first.inside merges.new.first.holds) few.0)
@@ -67,14 +67,14 @@ module _ (parent child : Book) where
   aggregation-once is NoMemory m f = absurd cc
   aggregation-once is _ m f = f
 
-  step-once : (kind : Accepted) → IsStep parent child kind → (fault : DeriveFault) → is_memory fault ≡ false → IsStepFault parent child kind fault → ⊥
+  pub step-once : (kind : Accepted) → IsStep parent child kind → (fault : DeriveFault) → is_memory fault ≡ false → IsStepFault parent child kind fault → ⊥
   step-once Refinement is fault m f = refinement-once is fault m f
   step-once Aggregation is fault m f = aggregation-once is fault m f
   step-once Augmentation is fault m f = augmentation-once is fault m f
 
 -- ---- lines
 
-line-once : (book : Book) (made : Result (Option Child) DeriveFault) (next : Book) (fault : DeriveFault) → is_memory fault ≡ false → Leaves book made next → IsLineFault book made fault → ⊥
+pub line-once : (book : Book) (made : Result (Option Child) DeriveFault) (next : Book) (fault : DeriveFault) → is_memory fault ≡ false → Leaves book made next → IsLineFault book made fault → ⊥
 line-once book (Ok None) next fault m l f = f
 line-once book (Ok (Some child)) next fault m l f = step-once book child.book child.kind l.1 fault m f.0
 line-once book (Err own) next fault m l f = l

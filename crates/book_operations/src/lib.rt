@@ -25,6 +25,6 @@ pub use aggregation::test_aggregation;
 pub use augmentation::test_augmentation;
 pub use fault::DeriveFault;
 pub use kind::{Accepted, accept};
-pub use laws::one_outcome;
+pub use laws::{one_outcome, one_verdict};
 pub use refinement::test_refinement;
 pub use script::apply_script;
