@@ -36,6 +36,9 @@ role_text role.Scenario = codes "scenario"
 role_text role.Lattice = codes "lattice"
 role_text role.List = codes "list"
 role_text role.Certificate = codes "certificate"
+role_text role.Parent = codes "parent"
+role_text role.Child = codes "child"
+role_text role.Script = codes "script"
 
 -- `refused ROLE FAULT`
 abbrev pub refused_text : Role → List ℕ → List ℕ

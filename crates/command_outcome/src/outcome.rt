@@ -36,6 +36,11 @@ pub enum Role {
     /// A list of maneuvers, which is a word and no file.
     List,
     Certificate,
+    /// The book from which another is a step.
+    Parent,
+    /// The book that is a step from another.
+    Child,
+    Script,
 }
 
 /// What is due to a command whose work can't be done.
@@ -107,6 +112,9 @@ impl Role {
             Role::Lattice => "lattice",
             Role::List => "list",
             Role::Certificate => "certificate",
+            Role::Parent => "parent",
+            Role::Child => "child",
+            Role::Script => "script",
         }
     }
 }

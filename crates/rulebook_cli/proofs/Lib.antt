@@ -9,6 +9,7 @@ pub mod Ordered
 pub mod Shown
 pub mod Ways
 pub mod WalkTexts
+pub mod Derivings
 pub mod OneOutcome
 pub mod Accepted
 pub mod Headlines

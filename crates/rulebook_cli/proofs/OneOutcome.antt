@@ -10,7 +10,7 @@ use Rattle.rulebook_order.proofs.Unique.{IsFront-unique, IsVerdict-unique}
 use Rattle.command_outcome.specs.Outcome.{Outcome}
 use Rattle.command_outcome.specs.Tasks.{IsDueTo, EndAlike, KeepsFiles}
 use Rattle.command_outcome.proofs.DueOutcomes.{alike, end_alike, keeps, same_outcome}
-use Rattle.rulebook_cli.specs.Words.{Request, pick, compare, show, walk, plan, check, reading}
+use Rattle.rulebook_cli.specs.Words.{Request, pick, compare, show, walk, accept, derive, plan, check, reading}
 use Rattle.rulebook_cli.specs.Asked.{task_by, task_of}
 use Rattle.rulebook_cli.specs.Pick.{PickMakes, IsPickText, kept_lines}
 use Rattle.rulebook_cli.specs.Compare.{CompareMakes, IsCompareText, IsPairLine, pair_line, pairs}
@@ -27,6 +27,7 @@ use Rattle.rulebook_cli.specs.Answers.{NoWorseFor, graph_of}
 use Rattle.rulebook_cli.specs.Check.{CheckMakes, IsAccepted, IsRejected, accepted_text, check_task, rejected_text}
 use Rattle.rulebook_cli.specs.Plan.{PlanMakes, plan_task}
 use Rattle.rulebook_cli.proofs.Ascending.{one_list}
+use Rattle.rulebook_cli.proofs.Derivings.{accept_keeps, derive_keeps, one_accept, one_derive}
 use Rattle.rulebook_cli.proofs.Lines.{lines_unique}
 
 one_pick_text : (book : Book) (rows : List Row) (s t : List ℕ) → IsPickText book rows s → IsPickText book rows t → s ≡ t
@@ -109,6 +110,8 @@ once_to : (request : Request) (files : Files) (o p : Outcome) → (task_of reque
 once_to (pick book table) files o p one = alike (λ o p. o ≡ p) (λ o. refl) (task_of (pick book table)) files (one_pick files) o p
 once_to (compare book table) files o p one = alike (λ o p. o ≡ p) (λ o. refl) (task_of (compare book table)) files (one_compare files) o p
 once_to (walk scenario book lattice list) files o p one = alike (λ o p. o ≡ p) (λ o. refl) (task_of (walk scenario book lattice list)) files (one_walk files) o p
+once_to (accept parent child) files o p one = alike (λ o p. o ≡ p) (λ o. refl) (task_of (accept parent child)) files (one_accept files) o p
+once_to (derive parent script) files o p one = alike (λ o p. o ≡ p) (λ o. refl) (task_of (derive parent script)) files (one_derive files) o p
 once_to (plan scenario book lattice name) files o p one = absurd cc
 once_to (check scenario book lattice name) files o p one = alike (λ o p. o ≡ p) (λ o. refl) (task_of (check scenario book lattice name)) files (one_check files) o p
 once_to (show scenario) files o p one = alike (λ o p. o ≡ p) (λ o. refl) (task_of (show scenario)) files (λ x o p h k. h ∙ sym k) o p
@@ -117,6 +120,8 @@ ends_to : (request : Request) (files : Files) (o p : Outcome) → IsDueTo (task_
 ends_to (pick book table) files o p h k = end_alike o p (once_to (pick book table) files o p refl h k)
 ends_to (compare book table) files o p h k = end_alike o p (once_to (compare book table) files o p refl h k)
 ends_to (walk scenario book lattice list) files o p h k = end_alike o p (once_to (walk scenario book lattice list) files o p refl h k)
+ends_to (accept parent child) files o p h k = end_alike o p (once_to (accept parent child) files o p refl h k)
+ends_to (derive parent script) files o p h k = end_alike o p (once_to (derive parent script) files o p refl h k)
 ends_to (plan scenario book lattice name) files o p h k = alike EndAlike same_end (task_of (plan scenario book lattice name)) files (plan_ends name files) o p h k
 ends_to (check scenario book lattice name) files o p h k = end_alike o p (once_to (check scenario book lattice name) files o p refl h k)
 ends_to (show scenario) files o p h k = end_alike o p (once_to (show scenario) files o p refl h k)
@@ -125,6 +130,8 @@ keeps_to : (request : Request) (files : Files) (o : Outcome) → IsDueTo (task_o
 keeps_to (pick book table) files = keeps (task_of (pick book table)) files (λ x o h. inl h.stays)
 keeps_to (compare book table) files = keeps (task_of (compare book table)) files (λ x o h. inl h.stays)
 keeps_to (walk scenario book lattice list) files = keeps (task_of (walk scenario book lattice list)) files (λ x o h. inl h.stays)
+keeps_to (accept parent child) files = keeps (task_of (accept parent child)) files (accept_keeps parent child files)
+keeps_to (derive parent script) files = keeps (task_of (derive parent script)) files (derive_keeps parent script files)
 keeps_to (plan scenario book lattice name) files = keeps (task_of (plan scenario book lattice name)) files (plan_keeps scenario book lattice name files)
 keeps_to (check scenario book lattice name) files = keeps (task_of (check scenario book lattice name)) files (check_keeps scenario book lattice name files)
 keeps_to (show scenario) files = keeps (task_of (show scenario)) files (λ x o h. inl (ap (λ (q : Outcome). q.files) h))

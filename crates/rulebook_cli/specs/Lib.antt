@@ -15,6 +15,9 @@ pub mod Certificates
 pub mod Check
 pub mod Plan
 pub mod Planning
+pub mod DeriveFaults
+pub mod Accept
+pub mod Derive
 pub mod Asked
 pub mod Headline
 pub mod ExitStatus

@@ -6,7 +6,7 @@ use Rattle.std.specs.String.{string_bytes}
 use Rattle.std.specs.List.{list_all}
 use Rattle.std.specs.Str.{bytes_eq}
 use Rattle.rulebook_cli.specs.declared.words.Command.{Command}
-use Rattle.rulebook_cli.specs.declared.words.Command.TheVariants.{Pick, Compare, Show, Walk, Plan, Check}
+use Rattle.rulebook_cli.specs.declared.words.Command.TheVariants.{Pick, Compare, Show, Walk, Accept, Derive, Plan, Check}
 
 -- a command with the names of its files
 pub data Request : Type 0 where
@@ -14,6 +14,8 @@ pub data Request : Type 0 where
   compare : (book table : List ℕ) → Request
   show : (scenario : List ℕ) → Request
   walk : (scenario book lattice list : List ℕ) → Request
+  accept : (parent child : List ℕ) → Request
+  derive : (parent script : List ℕ) → Request
   plan : (scenario book lattice certificate : List ℕ) → Request
   check : (scenario book lattice certificate : List ℕ) → Request
 
@@ -38,6 +40,8 @@ abbrev pub two_words : List ℕ → List ℕ → List ℕ → Option Request
 two_words command a b =
     if bytes_eq command (codes "pick") then Some (pick a b)
     else if bytes_eq command (codes "compare") then Some (compare a b)
+    else if bytes_eq command (codes "accept") then Some (accept a b)
+    else if bytes_eq command (codes "derive") then Some (derive a b)
     else None
 
 -- the last name is none of the others
@@ -74,5 +78,7 @@ request_of (Pick book table) = pick book.now table.now
 request_of (Compare book table) = compare book.now table.now
 request_of (Show scenario) = show scenario.now
 request_of (Walk scenario book lattice list) = walk scenario.now book.now lattice.now list.now
+request_of (Accept parent child) = accept parent.now child.now
+request_of (Derive parent script) = derive parent.now script.now
 request_of (Plan scenario book lattice certificate) = plan scenario.now book.now lattice.now certificate.now
 request_of (Check scenario book lattice certificate) = check scenario.now book.now lattice.now certificate.now

@@ -12,6 +12,9 @@ mod bound_scene;
 mod certificates;
 mod checking;
 mod comparing;
+#[cfg(test)]
+mod derivation_tests;
+mod derivations;
 mod inputs;
 mod laws;
 mod picking;

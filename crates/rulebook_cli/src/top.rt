@@ -8,6 +8,7 @@ ghost use Rattle.rulebook_cli.specs.Headline.{CheckPrintsTheAnswer, PlanPrintsTh
 
 use crate::checking::check;
 use crate::comparing::compare_rows;
+use crate::derivations::{accept_child, derive};
 use crate::picking::pick;
 use crate::planning::plan;
 use crate::showing::show;
@@ -32,6 +33,8 @@ fn serve<S: Store>(alloc: Global, store: &mut S, command: Command<'_>) -> Result
             lattice,
             list,
         } => walk(alloc, store, scenario, book, lattice, list),
+        Command::Accept { parent, child } => accept_child(alloc, store, parent, child),
+        Command::Derive { parent, script } => derive(alloc, store, parent, script),
         Command::Plan {
             scenario,
             book,

@@ -24,6 +24,14 @@ pub enum Command<'a> {
         lattice: &'a str,
         list: &'a str,
     },
+    Accept {
+        parent: &'a str,
+        child: &'a str,
+    },
+    Derive {
+        parent: &'a str,
+        script: &'a str,
+    },
     Plan {
         scenario: &'a str,
         book: &'a str,
@@ -95,6 +103,14 @@ fn two_words<'a>(command: &str, a: &'a str, b: &'a str) -> Option<Command<'a>>
     match command {
         "pick" => Some(Command::Pick { book: a, table: b }),
         "compare" => Some(Command::Compare { book: a, table: b }),
+        "accept" => Some(Command::Accept {
+            parent: a,
+            child: b,
+        }),
+        "derive" => Some(Command::Derive {
+            parent: a,
+            script: b,
+        }),
         _ => None,
     }
 }
