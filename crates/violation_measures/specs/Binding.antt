@@ -5,6 +5,7 @@ use Rattle.rule_language.specs.declared.book.Rule.{Rule}
 use Rattle.rule_language.specs.declared.part.Part.{Part}
 use Rattle.violation_measures.specs.Amounts.{IsBoundPart}
 use Rattle.violation_measures.specs.Intervals.{all_known, all_keep}
+use Rattle.violation_measures.specs.Resolved.{resolved_book}
 use Rattle.violation_measures.specs.Sources.{Features, bounds_of}
 use Rattle.violation_measures.specs.declared.bind_fault.BindFault.{BindFault}
 use Rattle.violation_measures.specs.declared.bind_fault.BindFault.TheVariants as fault
@@ -83,8 +84,9 @@ pub record IsBoundRule (f : Features) (rule : Rule) : Type 0 where
   pub few : length rule.parts ≤ 8
   pub parts : All (IsBoundPart f) rule.parts
 
--- the book of what was bound is bound to the source
+-- the book of what was bound is bound to the source, and worked out over its features
 pub record IsBoundTo (f : Features) (bound : Bound) : Type 0 where
   pub some : 1 ≤ length bound.book.rules
   pub few : length bound.book.rules ≤ 32
   pub rules : All (IsBoundRule f) bound.book.rules
+  pub resolved : bound ≡ resolved_book f.find bound.book
