@@ -1,10 +1,11 @@
 -- What the parts of a bound rule add is the rule's value, and its end value.
-use Rattle.std.proofs.Common.{◌≡◌, ℕ, ◌+◌, ◌*◌, ◌≤◌, ◌^◌, Bool, cond, ℤ, List, [], ◌∷◌, map, length, refl, sym, ap, subst, ◌∙◌}
+use Rattle.std.proofs.Common.{◌≡◌, ℕ, ◌+◌, ◌*◌, ◌≤◌, ◌^◌, Bool, true, false, cond, ℤ, List, [], ◌∷◌, map, length, refl, sym, ap, subst, ◌∙◌}
 use Rattle.std.specs.Prelude.{All}
 use Rattle.std.specs.List.{sum_by}
 use Rattle.std.proofs.lemmas.List.{length-map}
 use Rattle.std.proofs.lemmas.List.Elements.{All-head, All-tail, All-map}
 use Rattle.std.proofs.lemmas.List.Sums.{sum_by-cons}
+use Rattle.expressions.specs.declared.tree.Expr.{Expr}
 use Rattle.rule_language.specs.declared.book.Rule.{Rule}
 use Rattle.rule_language.specs.declared.part.Part.{Part}
 use Rattle.violation_measures.specs.Amounts.{part_value, weighted, rule_value, end_value, IsBoundPart}
@@ -36,38 +37,66 @@ maps_same g p q P same [] all = refl
 maps_same g p q P same (x ∷ xs) all = λ i. same x (All-head P x xs all) i ∷ maps_same g p q P same xs (All-tail P x xs all) i
 
 module _ (f : Features) (sound : AreSound f) (step : Step) (good : IsStep step) (used : List ℕ) (values : List ℤ) (measured : IsMeasured f step used values) where
-  amount_same : (part : Part) → IsBoundPart f part → amount (measured_at values) (at_step f step) (resolved_part f.find used part) ≡ weighted (at_step f step) part
+  -- what a formula over what is measured counts
+  counts : Expr → ℕ
+  counts e = counted (formula_value (measured_at values) (at_step f step) (resolved f.find used e))
+
+  amount_same : (part : Part) → IsBoundPart f part → part.weight * counts part.expr ≡ weighted (at_step f step) part
+  unfolding counts
   amount_same part h =
       let v = at_step f step in
       let e = resolved_value (measured_at values) v f.find used (stands f step used values measured) part.expr ∙ exact v (bounds_of f) (within_bounds f step sound good) part.expr h.well_formed h.keeps in
       ap (λ o. part.weight * counted o) e
 
-  pub step_amount_same : (rule : Rule) → IsBoundRule f rule → step_amount (measured_at values) (at_step f step) (resolved_rule f.find used rule).parts ≡ rule_value (at_step f step) rule.parts
-  step_amount_same rule h =
-      sums_same (resolved_part f.find used) (λ part. cond part.at_end 0 (amount (measured_at values) (at_step f step) part)) (λ part. cond part.at_end 0 (weighted (at_step f step) part))
-      (IsBoundPart f) (λ part p. ap (λ (n : ℕ). cond part.at_end 0 n) (amount_same part p)) rule.parts h.parts
+  at_steps_same : (others : List ℕ) (part : Part) → IsBoundPart f part → (b : Bool)
+      → cond b 0 (part.weight * counted (formula_value (measured_at values) (at_step f step) (resolved f.find (cond b others used) part.expr))) ≡ cond b 0 (weighted (at_step f step) part)
+  unfolding counts
+  at_steps_same others part h true = refl
+  at_steps_same others part h false = amount_same part h
 
-  pub end_amount_same : (rule : Rule) → IsBoundRule f rule → end_amount (measured_at values) (at_step f step) (resolved_rule f.find used rule).parts ≡ end_value (at_step f step) rule.parts
-  end_amount_same rule h =
-      sums_same (resolved_part f.find used) (λ part. cond part.at_end (amount (measured_at values) (at_step f step) part) 0) (λ part. cond part.at_end (weighted (at_step f step) part) 0)
-      (IsBoundPart f) (λ part p. ap (λ (n : ℕ). cond part.at_end n 0) (amount_same part p)) rule.parts h.parts
+  at_end_same : (others : List ℕ) (part : Part) → IsBoundPart f part → (b : Bool)
+      → cond b (part.weight * counted (formula_value (measured_at values) (at_step f step) (resolved f.find (cond b used others) part.expr))) 0 ≡ cond b (weighted (at_step f step) part) 0
+  unfolding counts
+  at_end_same others part h true = amount_same part h
+  at_end_same others part h false = refl
+
+  pub step_amount_same : (others : List ℕ) (rule : Rule) → IsBoundRule f rule → step_amount (measured_at values) (at_step f step) (resolved_rule f.find used others rule).parts ≡ rule_value (at_step f step) rule.parts
+  step_amount_same others rule h =
+      sums_same (resolved_part f.find used others) (λ part. cond part.at_end 0 (amount (measured_at values) (at_step f step) part)) (λ part. cond part.at_end 0 (weighted (at_step f step) part))
+      (IsBoundPart f) (λ part p. at_steps_same others part p part.at_end) rule.parts h.parts
+
+  pub end_amount_same : (others : List ℕ) (rule : Rule) → IsBoundRule f rule → end_amount (measured_at values) (at_step f step) (resolved_rule f.find others used rule).parts ≡ end_value (at_step f step) rule.parts
+  end_amount_same others rule h =
+      sums_same (resolved_part f.find others used) (λ part. cond part.at_end (amount (measured_at values) (at_step f step) part) 0) (λ part. cond part.at_end (weighted (at_step f step) part) 0)
+      (IsBoundPart f) (λ part p. at_end_same others part p part.at_end) rule.parts h.parts
 
 -- ---- of a book that is bound
 
-pub used_is : (f : Features) (bound : Bound) → IsBoundTo f bound → bound.used ≡ used_by f.find bound.book.rules
-used_is f bound h = ap (λ (b : Bound). b.used) h.resolved
+at_steps_are : (f : Features) (bound : Bound) → IsBoundTo f bound → bound.at_steps ≡ used_by f.find false bound.book.rules
+at_steps_are f bound h = ap (λ (b : Bound). b.at_steps) h.resolved
 
-pub rules_are : (f : Features) (bound : Bound) → IsBoundTo f bound → bound.rules ≡ resolved_rules f.find bound.used bound.book.rules
-rules_are f bound h = ap (λ (b : Bound). b.rules) h.resolved ∙ ap (λ (used : List ℕ). resolved_rules f.find used bound.book.rules) (sym (used_is f bound h))
+at_end_are : (f : Features) (bound : Bound) → IsBoundTo f bound → bound.at_end ≡ used_by f.find true bound.book.rules
+at_end_are f bound h = ap (λ (b : Bound). b.at_end) h.resolved
 
-pub bound_known : (f : Features) (bound : Bound) → IsBoundTo f bound → All (IsKnown f) bound.used
-bound_known f bound h = subst (λ (used : List ℕ). All (IsKnown f) used) (sym (used_is f bound h)) (used_known f bound.book.rules)
+rules_are : (f : Features) (bound : Bound) → IsBoundTo f bound → bound.rules ≡ resolved_rules f.find bound.at_steps bound.at_end bound.book.rules
+rules_are f bound h = ap (λ (b : Bound). b.rules) h.resolved ∙ (λ i. resolved_rules f.find (sym (at_steps_are f bound h) i) (sym (at_end_are f bound h) i) bound.book.rules)
 
-pub bound_few : (f : Features) (bound : Bound) → IsBoundTo f bound → length bound.used ≤ MAX_MEASURED
-bound_few f bound h = subst (λ (used : List ℕ). length used ≤ MAX_MEASURED) (sym (used_is f bound h)) (used_few f bound.book.rules)
+-- what is so of the numbers of features that are measured
+pub record AreMeasurable (f : Features) (used : List ℕ) : Type 0 where
+  pub known : All (IsKnown f) used
+  pub few : length used ≤ MAX_MEASURED
+
+measurable : (f : Features) (at_end : Bool) (rules : List Rule) → AreMeasurable f (used_by f.find at_end rules)
+measurable f at_end rules = record { known = used_known f at_end rules; few = used_few f at_end rules }
+
+pub steps_measurable : (f : Features) (bound : Bound) → IsBoundTo f bound → AreMeasurable f bound.at_steps
+steps_measurable f bound h = subst (λ (used : List ℕ). AreMeasurable f used) (sym (at_steps_are f bound h)) (measurable f false bound.book.rules)
+
+pub end_measurable : (f : Features) (bound : Bound) → IsBoundTo f bound → AreMeasurable f bound.at_end
+end_measurable f bound h = subst (λ (used : List ℕ). AreMeasurable f used) (sym (at_end_are f bound h)) (measurable f true bound.book.rules)
 
 pub as_many : (f : Features) (bound : Bound) → IsBoundTo f bound → length bound.rules ≡ length bound.book.rules
-as_many f bound h = ap length (rules_are f bound h) ∙ length-map bound.book.rules (resolved_rule f.find bound.used)
+as_many f bound h = ap length (rules_are f bound h) ∙ length-map bound.book.rules (resolved_rule f.find bound.at_steps bound.at_end)
 
 -- what is so of each bound rule
 pub record IsFew (rule : BoundRule) : Type 0 where
@@ -77,25 +106,25 @@ pub record IsFew (rule : BoundRule) : Type 0 where
 pub each_few : (f : Features) (bound : Bound) → IsBoundTo f bound → All IsFew bound.rules
 each_few f bound h =
     subst (λ (rules : List BoundRule). All IsFew rules) (sym (rules_are f bound h))
-    (All-map IsFew (resolved_rule f.find bound.used) bound.book.rules (λ i rule within.
-        let r = h.rules i rule within in
-        record {
-          few = subst (λ (n : ℕ). n ≤ 8) (sym (length-map _ (resolved_part f.find bound.used))) r.few;
-          weights = All-map (λ (part : BoundPart). part.weight ≤ 10 ^ 6) (resolved_part f.find bound.used) _ (λ j part here. (r.parts j part here).weight);
-        }))
+    (All-map IsFew (resolved_rule f.find bound.at_steps bound.at_end) bound.book.rules (λ i rule within.
+    let r = h.rules i rule within in
+    record {
+      few = subst (λ (n : ℕ). n ≤ 8) (sym (length-map _ (resolved_part f.find bound.at_steps bound.at_end))) r.few;
+      weights = All-map (λ (part : BoundPart). part.weight ≤ 10 ^ 6) (resolved_part f.find bound.at_steps bound.at_end) _ (λ j part here. (r.parts j part here).weight);
+    }))
 
-pub step_vector_is : (f : Features) (bound : Bound) (step : Step) (values : List ℤ) → AreSound f → IsBoundTo f bound → IsStep step → IsMeasured f step bound.used values
+pub step_vector_is : (f : Features) (bound : Bound) (step : Step) (values : List ℤ) → AreSound f → IsBoundTo f bound → IsStep step → IsMeasured f step bound.at_steps values
     → map (λ (rule : BoundRule). step_amount (measured_at values) (at_step f step) rule.parts) bound.rules ≡ step_vector f bound step
 unfolding step_vector
 step_vector_is f bound step values sound h good measured =
     ap (λ (rules : List BoundRule). map (λ (rule : BoundRule). step_amount (measured_at values) (at_step f step) rule.parts) rules) (rules_are f bound h)
-    ∙ maps_same (resolved_rule f.find bound.used) (λ (rule : BoundRule). step_amount (measured_at values) (at_step f step) rule.parts) (value_at f step) (IsBoundRule f)
-    (step_amount_same f sound step good bound.used values measured) bound.book.rules h.rules
+    ∙ maps_same (resolved_rule f.find bound.at_steps bound.at_end) (λ (rule : BoundRule). step_amount (measured_at values) (at_step f step) rule.parts) (value_at f step) (IsBoundRule f)
+    (step_amount_same f sound step good bound.at_steps values measured bound.at_end) bound.book.rules h.rules
 
-pub end_vector_is : (f : Features) (bound : Bound) (step : Step) (values : List ℤ) → AreSound f → IsBoundTo f bound → IsStep (finish step) → IsMeasured f (finish step) bound.used values
+pub end_vector_is : (f : Features) (bound : Bound) (step : Step) (values : List ℤ) → AreSound f → IsBoundTo f bound → IsStep (finish step) → IsMeasured f (finish step) bound.at_end values
     → map (λ (rule : BoundRule). end_amount (measured_at values) (at_step f (finish step)) rule.parts) bound.rules ≡ end_vector f bound step
 unfolding end_vector
 end_vector_is f bound step values sound h good measured =
     ap (λ (rules : List BoundRule). map (λ (rule : BoundRule). end_amount (measured_at values) (at_step f (finish step)) rule.parts) rules) (rules_are f bound h)
-    ∙ maps_same (resolved_rule f.find bound.used) (λ (rule : BoundRule). end_amount (measured_at values) (at_step f (finish step)) rule.parts) (end_at f step) (IsBoundRule f)
-    (end_amount_same f sound (finish step) good bound.used values measured) bound.book.rules h.rules
+    ∙ maps_same (resolved_rule f.find bound.at_steps bound.at_end) (λ (rule : BoundRule). end_amount (measured_at values) (at_step f (finish step)) rule.parts) (end_at f step) (IsBoundRule f)
+    (end_amount_same f sound (finish step) good bound.at_end values measured bound.at_steps) bound.book.rules h.rules

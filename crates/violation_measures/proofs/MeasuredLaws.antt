@@ -13,7 +13,7 @@ use Rattle.expressions.specs.declared.tree.Expr.TheOpen.{Expr-F}
 use Rattle.expressions.specs.declared.tree.Expr.TheFolds.{fold-Expr, fold-roll-Expr, ind-Expr, map-Expr}
 use Rattle.rule_language.specs.declared.book.Rule.{Rule}
 use Rattle.rule_language.specs.declared.part.Part.{Part}
-use Rattle.violation_measures.specs.Measured.{number_found, numbers_step, numbers, part_numbers, rule_numbers, noted, used_by, measured_at, IsMeasured}
+use Rattle.violation_measures.specs.Measured.{number_found, numbers_step, numbers, is_of_kind, part_numbers, rule_numbers, noted, used_by, measured_at, IsMeasured}
 use Rattle.violation_measures.specs.Sources.{Features, IsKnown, at_step, value_found}
 use Rattle.violation_measures.specs.declared.step.Step.{Step}
 use Rattle.violation_measures.specs.declared.used.TheConstants.{MAX_MEASURED}
@@ -84,15 +84,19 @@ module _ (f : Features) where
   unfolding Holds
   numbers_known = ind-Expr Holds (λ x y is. subst (λ (z : Expr-F Expr). Holds (roll-Expr z)) is (settled (map-Expr ((a : Expr) × Holds a) Expr (λ p. p.0) y) (layer y)))
 
-  pub used_known : (rules : List Rule) → All (IsKnown f) (used_by f.find rules)
-  unfolding used_by
-  used_known rules =
-      all_folded (rule_numbers f.find rules) [] (All-nil (IsKnown f))
-      (all_over (λ (rule : Rule). part_numbers f.find rule.parts) (λ rule. all_over (λ (part : Part). numbers f.find part.expr) (λ part. numbers_known part.expr) rule.parts) rules)
+  known_if : (b : Bool) (e : Expr) → All (IsKnown f) (cond b (numbers f.find e) [])
+  known_if true e = numbers_known e
+  known_if false e = All-nil (IsKnown f)
 
-  pub used_few : (rules : List Rule) → length (used_by f.find rules) ≤ MAX_MEASURED
+  pub used_known : (at_end : Bool) (rules : List Rule) → All (IsKnown f) (used_by f.find at_end rules)
   unfolding used_by
-  used_few rules = few_folded (rule_numbers f.find rules) [] (omega arith)
+  used_known at_end rules =
+      all_folded (rule_numbers f.find at_end rules) [] (All-nil (IsKnown f))
+      (all_over (λ (rule : Rule). part_numbers f.find at_end rule.parts) (λ rule. all_over (λ (part : Part). cond (is_of_kind at_end part) (numbers f.find part.expr) []) (λ part. known_if (is_of_kind at_end part) part.expr) rule.parts) rules)
+
+  pub used_few : (at_end : Bool) (rules : List Rule) → length (used_by f.find at_end rules) ≤ MAX_MEASURED
+  unfolding used_by
+  used_few at_end rules = few_folded (rule_numbers f.find at_end rules) [] (omega arith)
 
   -- ---- they stand at their places
 

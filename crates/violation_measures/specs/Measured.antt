@@ -1,5 +1,5 @@
--- What is measured once a step: the features that the parts of a book name, each once. This project's own.
-use Rattle.std.specs.Prelude.{◌≡◌, ◌<◌, ℕ, ℤ, pos, ◌==◌, ◌||◌, Bool, nat_le, List, [], ◌∷◌, ◌++◌, length, map, Option, Some, None, slice_index_or, if◌then◌else◌}
+-- What is measured once a step, or once at the end: the features that the parts of a book name, each once. This project's own.
+use Rattle.std.specs.Prelude.{◌≡◌, ◌<◌, ℕ, ℤ, pos, ◌==◌, ◌||◌, Bool, not, nat_le, List, [], ◌∷◌, ◌++◌, length, map, Option, Some, None, slice_index_or, if◌then◌else◌}
 use Rattle.std.specs.List.{fold, flat_map, list_any}
 use Rattle.expressions.specs.declared.tree.Expr.{Expr}
 use Rattle.expressions.specs.declared.tree.Expr.TheOpen.{Expr-F}
@@ -34,19 +34,24 @@ numbers_step find (Expr-F.Div a n) = a
 abbrev pub numbers : Find → Expr → List ℕ
 numbers find = fold-Expr (List ℕ) (numbers_step find)
 
-abbrev pub part_numbers : Find → List Part → List ℕ
-part_numbers find = flat_map (λ part. numbers find part.expr)
+-- whether a part is of the end, or not, as is asked
+abbrev pub is_of_kind : Bool → Part → Bool
+is_of_kind at_end part = if at_end then part.at_end else not part.at_end
 
-abbrev pub rule_numbers : Find → List Rule → List ℕ
-rule_numbers find = flat_map (λ rule. part_numbers find rule.parts)
+-- those of the parts of a kind
+abbrev pub part_numbers : Find → Bool → List Part → List ℕ
+part_numbers find at_end = flat_map (λ part. if is_of_kind at_end part then numbers find part.expr else [])
+
+abbrev pub rule_numbers : Find → Bool → List Rule → List ℕ
+rule_numbers find at_end = flat_map (λ rule. part_numbers find at_end rule.parts)
 
 -- one number more, where it is new and there is room
 abbrev pub noted : List ℕ → ℕ → List ℕ
 noted used n = if nat_le MAX_MEASURED (length used) || list_any (λ m. m == n) used then used else used ++ n ∷ []
 
--- the numbers of the first features that the parts of the rules name, each once
-unfoldable pub used_by : Find → List Rule → List ℕ
-used_by find rules = fold noted [] (rule_numbers find rules)
+-- the numbers of the first features that the parts of a kind name, each once
+unfoldable pub used_by : Find → Bool → List Rule → List ℕ
+used_by find at_end rules = fold noted [] (rule_numbers find at_end rules)
 
 -- ---- their values
 

@@ -1,5 +1,5 @@
 -- A book as it is worked with once it is bound, and what its parts amount to. This project's own.
-use Rattle.std.specs.Prelude.{ℕ, ℤ, ◌*◌, List, map, Option, Some, None, if◌then◌else◌}
+use Rattle.std.specs.Prelude.{ℕ, ℤ, ◌*◌, false, true, List, map, Option, Some, None, if◌then◌else◌}
 use Rattle.std.specs.List.{sum_by}
 use Rattle.rule_language.specs.declared.book.Book.{Book}
 use Rattle.rule_language.specs.declared.book.Rule.{Rule}
@@ -12,18 +12,24 @@ use Rattle.violation_measures.specs.declared.bound.Bound.{Bound}
 use Rattle.violation_measures.specs.declared.bound.BoundPart.{BoundPart}
 use Rattle.violation_measures.specs.declared.bound.BoundRule.{BoundRule}
 
-abbrev pub resolved_part : Find → List ℕ → Part → BoundPart
-resolved_part find used part = record { weight = part.weight; at_end = part.at_end; formula = resolved find used part.expr }
+-- over the features that are measured once a step, and those that are measured once at the end
+abbrev pub resolved_part : Find → List ℕ → List ℕ → Part → BoundPart
+resolved_part find at_steps at_end part = record { weight = part.weight; at_end = part.at_end; formula = resolved find (if part.at_end then at_end else at_steps) part.expr }
 
-abbrev pub resolved_rule : Find → List ℕ → Rule → BoundRule
-resolved_rule find used rule = record { parts = map (resolved_part find used) rule.parts }
+abbrev pub resolved_rule : Find → List ℕ → List ℕ → Rule → BoundRule
+resolved_rule find at_steps at_end rule = record { parts = map (resolved_part find at_steps at_end) rule.parts }
 
-abbrev pub resolved_rules : Find → List ℕ → List Rule → List BoundRule
-resolved_rules find used rules = map (resolved_rule find used) rules
+abbrev pub resolved_rules : Find → List ℕ → List ℕ → List Rule → List BoundRule
+resolved_rules find at_steps at_end rules = map (resolved_rule find at_steps at_end) rules
 
--- the book, the numbers of the features that are measured once a step, and its rules over these
+-- the book, the numbers of the features that are measured once a step and once at the end, and its rules over these
 abbrev pub resolved_book : Find → Book → Bound
-resolved_book find book = record { book = book; used = used_by find book.rules; rules = resolved_rules find (used_by find book.rules) book.rules }
+resolved_book find book = record {
+  book = book;
+  at_steps = used_by find false book.rules;
+  at_end = used_by find true book.rules;
+  rules = resolved_rules find (used_by find false book.rules) (used_by find true book.rules) book.rules;
+}
 
 -- ---- amounts
 

@@ -29,6 +29,8 @@ pub struct BoundRule {
 pub struct Bound {
     book: Book,
     /// The numbers of the features that are measured once a step.
-    used: List<u32>,
+    at_steps: List<u32>,
+    /// The numbers of those that are measured once at the end.
+    at_end: List<u32>,
     rules: List<BoundRule>,
 }

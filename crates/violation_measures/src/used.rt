@@ -1,13 +1,13 @@
-ghost use Rattle.std.specs.Prelude.{◌≡◌, ◌==◌, OnOk, IfOk};
+ghost use Rattle.std.specs.Prelude.{◌≡◌, ◌==◌, OnOk, IfOk, if◌then◌else◌, []};
 ghost use Rattle.std.specs.List.{fold, list_any};
-ghost use Rattle.violation_measures.specs.Measured.{noted, numbers, part_numbers, used_by};
+ghost use Rattle.violation_measures.specs.Measured.{noted, numbers, is_of_kind, part_numbers, used_by};
 
 use crate::source::FeatureSource;
 use preorder::{List, NoMemory};
 use rule_language::{Expr, Part, Rule};
 use std::alloc::Global;
 
-/// The most features that are measured once a step. A book's further features are measured where they stand.
+/// The most features that are measured once a step, and once at the end. A book's further features are found and measured where they stand.
 pub const MAX_MEASURED: usize = 64;
 
 fn is_noted(used: &[u32], number: u32) -> bool
@@ -53,31 +53,53 @@ fn note_features<S: FeatureSource>(
     }
 }
 
+fn is_of_kind(at_end: bool, part: &Part) -> bool
+    ensures { result ≡ is_of_kind at_end part.now }
+{
+    if at_end { part.at_end } else { !part.at_end }
+}
+
+fn note_part<S: FeatureSource>(
+    source: &S,
+    at_end: bool,
+    part: &Part,
+    used: &mut List<u32>,
+) -> Result<(), NoMemory>
+    ensures { OnOk result (used.new ≡ fold noted used.old (if is_of_kind at_end part.now then numbers (S.features source.now).find part.now.expr else [])) }
+{
+    if !is_of_kind(at_end, part) {
+        return Ok(());
+    }
+    note_features(source, &part.expr, used)
+}
+
 fn note_parts<S: FeatureSource>(
     source: &S,
+    at_end: bool,
     parts: &[Part],
     used: &mut List<u32>,
 ) -> Result<(), NoMemory>
-    ensures { OnOk result (used.new ≡ fold noted used.old (part_numbers (S.features source.now).find parts.now)) }
+    ensures { OnOk result (used.new ≡ fold noted used.old (part_numbers (S.features source.now).find at_end parts.now)) }
 {
     for part in parts {
-        note_features(source, &part.expr, used)?;
+        note_part(source, at_end, part, used)?;
     }
     Ok(())
 }
 
-/// The numbers of the first `MAX_MEASURED` features that the parts of the rules name, each once.
+/// The numbers of the first `MAX_MEASURED` features that the parts of the end name, or the other parts, each once.
 #[tactic(auto, unfolding(crate::specs::Measured::used_by))]
 pub fn used_by<S: FeatureSource>(
     alloc: Global,
     source: &S,
+    at_end: bool,
     rules: &[Rule],
 ) -> Result<List<u32>, NoMemory>
-    ensures { IfOk result (λ used. used ≡ used_by (S.features source.now).find rules.now) }
+    ensures { IfOk result (λ used. used ≡ used_by (S.features source.now).find at_end rules.now) }
 {
     let mut used = List::new(alloc);
     for rule in rules {
-        note_parts(source, rule.parts.as_slice(), &mut used)?;
+        note_parts(source, at_end, rule.parts.as_slice(), &mut used)?;
     }
     Ok(used)
 }

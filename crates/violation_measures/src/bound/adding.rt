@@ -38,7 +38,7 @@ impl Bound {
         requires room { HasRoom MAX_AMOUNT out.old }
         ensures { out.new ≡ sums out.old (step_vector (S.features source.now) self.now step.now) }
     {
-        let values = measure(source, step, self.used.as_slice());
+        let values = measure(source, step, self.at_steps.as_slice());
         let rules = self.rules.as_slice();
         for i in 0..rules.len() {
             let parts = rules[i].parts.as_slice();
@@ -57,7 +57,7 @@ impl Bound {
         ensures { out.new ≡ sums out.old (end_vector (S.features source.now) self.now step.now) }
     {
         let last = step.finish();
-        let values = measure(source, &last, self.used.as_slice());
+        let values = measure(source, &last, self.at_end.as_slice());
         let rules = self.rules.as_slice();
         for i in 0..rules.len() {
             let parts = rules[i].parts.as_slice();

@@ -63,21 +63,35 @@ fn test_rules<S: FeatureSource>(source: &S, rules: &[Rule]) -> Result<(), BindFa
     Ok(())
 }
 
+fn resolve_part<S: FeatureSource>(
+    alloc: Global,
+    source: &S,
+    at_steps: &[u32],
+    at_end: &[u32],
+    part: &Part,
+) -> Result<BoundPart, NoMemory>
+    ensures { IfOk result (λ bound. bound ≡ resolved_part (S.features source.now).find at_steps.now at_end.now part.now) }
+{
+    let used = if part.at_end { at_end } else { at_steps };
+    Ok(BoundPart {
+        weight: part.weight,
+        at_end: part.at_end,
+        formula: resolve(alloc, source, used, &part.expr)?,
+    })
+}
+
 fn resolve_parts<S: FeatureSource>(
     alloc: Global,
     source: &S,
-    used: &[u32],
+    at_steps: &[u32],
+    at_end: &[u32],
     parts: &[Part],
 ) -> Result<List<BoundPart>, NoMemory>
-    ensures { IfOk result (λ bound. bound ≡ map (resolved_part (S.features source.now).find used.now) parts.now) }
+    ensures { IfOk result (λ bound. bound ≡ map (resolved_part (S.features source.now).find at_steps.now at_end.now) parts.now) }
 {
     let mut bound = List::new(alloc);
     for part in parts {
-        bound.push(BoundPart {
-            weight: part.weight,
-            at_end: part.at_end,
-            formula: resolve(alloc, source, used, &part.expr)?,
-        })?;
+        bound.push(resolve_part(alloc, source, at_steps, at_end, part)?)?;
     }
     Ok(bound)
 }
@@ -85,15 +99,16 @@ fn resolve_parts<S: FeatureSource>(
 fn resolve_rules<S: FeatureSource>(
     alloc: Global,
     source: &S,
-    used: &[u32],
+    at_steps: &[u32],
+    at_end: &[u32],
     rules: &[Rule],
 ) -> Result<List<BoundRule>, NoMemory>
-    ensures { IfOk result (λ bound. bound ≡ resolved_rules (S.features source.now).find used.now rules.now) }
+    ensures { IfOk result (λ bound. bound ≡ resolved_rules (S.features source.now).find at_steps.now at_end.now rules.now) }
 {
     let mut bound = List::new(alloc);
     for rule in rules {
         bound.push(BoundRule {
-            parts: resolve_parts(alloc, source, used, rule.parts.as_slice())?,
+            parts: resolve_parts(alloc, source, at_steps, at_end, rule.parts.as_slice())?,
         })?;
     }
     Ok(bound)
@@ -104,11 +119,13 @@ fn resolve_book<S: FeatureSource>(alloc: Global, book: &Book, source: &S) -> Res
     ensures { IfOk result (λ bound. bound ≡ resolved_book (S.features source.now).find book.now) }
 {
     let rules = book.rules.as_slice();
-    let used = used_by(alloc, source, rules)?;
-    let rules = resolve_rules(alloc, source, used.as_slice(), rules)?;
+    let at_steps = used_by(alloc, source, false, rules)?;
+    let at_end = used_by(alloc, source, true, rules)?;
+    let rules = resolve_rules(alloc, source, at_steps.as_slice(), at_end.as_slice(), rules)?;
     Ok(Bound {
         book: copy_book(alloc, book)?,
-        used,
+        at_steps,
+        at_end,
         rules,
     })
 }

@@ -11,19 +11,19 @@ use Rattle.violation_measures.specs.declared.bound.adding.TheConstants.{MAX_AMOU
 use Rattle.violation_measures.specs.declared.step.Step.{Step}
 use Rattle.violation_measures.specs.declared.used.TheConstants.{MAX_MEASURED}
 use Rattle.violation_measures.proofs.Added.{length_added, added_one, added_all, room_at}
-use Rattle.violation_measures.proofs.AmountLaws.{IsFew, each_few, as_many, bound_known, bound_few, end_vector_is}
+use Rattle.violation_measures.proofs.AmountLaws.{IsFew, each_few, as_many, end_measurable, end_vector_is}
 use Rattle.violation_measures.proofs.VectorLaws.{end_up_to, amount_at, at_rule}
 use Rattle.violation_measures.proofs.bound.Bound.add_end.Goals as goal
 
 pub measure-values-requires-clause-known : goal.measure-values-requires-clause-known
 measure-values-requires-clause-known g c =
     let f = g.S.FeatureSource.features c.args.source.now in
-    subst (λ (used : List ℕ). All (IsKnown f) used) (sym c.as_slice.ensures) (bound_known f c.args.self.now c.requires.source)
+    subst (λ (used : List ℕ). All (IsKnown f) used) (sym c.as_slice.ensures) (end_measurable f c.args.self.now c.requires.source).known
 
 pub measure-values-requires-clause-few : goal.measure-values-requires-clause-few
 measure-values-requires-clause-few g c =
     let f = g.S.FeatureSource.features c.args.source.now in
-    subst (λ (used : List ℕ). length used ≤ MAX_MEASURED) (sym c.as_slice.ensures) (bound_few f c.args.self.now c.requires.source)
+    subst (λ (used : List ℕ). length used ≤ MAX_MEASURED) (sym c.as_slice.ensures) (end_measurable f c.args.self.now c.requires.source).few
 
 pub end_value-requires-clause-few : goal.end_value-requires-clause-few
 end_value-requires-clause-few g c =
@@ -66,7 +66,7 @@ loop-i-preserved g c =
     let value : c.end_value.result ≡ number c.index-rules-i.result = c.end_value.ensures.exact ∙ ap (λ (last : Step). end_amount (measured_at values) (at_step f last) c.as_slice-parts.result.now) c.finish-last.ensures.value ∙ ap (λ (parts : List BoundPart). end_amount (measured_at values) (at_step f (finish c.args.step.now)) parts) c.as_slice-parts.ensures ∙ ap number (sym c.index-rules-i.is) in
     let here = amount_at number c.args.self.now.rules c.as_slice-rules.result.now c.index-rules-i.result c.loop-i.i c.end_value.result c.as_slice-rules.ensures within c.index-rules-i.is value in
     let last : IsStep (finish c.args.step.now) = subst IsStep c.finish-last.ensures.value (c.finish-last.ensures.ranges c.requires.step) in
-    let measured : IsMeasured f (finish c.args.step.now) c.args.self.now.used values = subst (λ (used : List ℕ). IsMeasured f (finish c.args.step.now) used values) c.as_slice.ensures (subst (λ (last : Step). IsMeasured f last c.as_slice.result.now values) c.finish-last.ensures.value c.measure-values.ensures) in
+    let measured : IsMeasured f (finish c.args.step.now) c.args.self.now.at_end values = subst (λ (used : List ℕ). IsMeasured f (finish c.args.step.now) used values) c.as_slice.ensures (subst (λ (last : Step). IsMeasured f last c.as_slice.result.now values) c.finish-last.ensures.value c.measure-values.ensures) in
     let vector : map number c.args.self.now.rules ≡ amounts = end_vector_is f c.args.self.now c.args.step.now values (g.met.S.FeatureSource.sound c.args.source.now) c.requires.source last measured in
     let amount : c.end_value.result ≡ slice_index amounts c.loop-i.i = here ∙ ap (λ (ns : List ℕ). slice_index ns c.loop-i.i) vector in
     added_one c.loop-i.out c.args.out.now amounts _ c.loop-i.i c.end_value.result c.loop-i.invariant inside there amount c.add_at.ensures

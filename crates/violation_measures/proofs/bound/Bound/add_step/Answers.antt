@@ -9,19 +9,19 @@ use Rattle.violation_measures.specs.declared.bound.BoundRule.{BoundRule}
 use Rattle.violation_measures.specs.declared.bound.adding.TheConstants.{MAX_AMOUNT}
 use Rattle.violation_measures.specs.declared.used.TheConstants.{MAX_MEASURED}
 use Rattle.violation_measures.proofs.Added.{length_added, added_one, added_all, room_at}
-use Rattle.violation_measures.proofs.AmountLaws.{IsFew, each_few, as_many, bound_known, bound_few, step_vector_is}
+use Rattle.violation_measures.proofs.AmountLaws.{IsFew, each_few, as_many, steps_measurable, step_vector_is}
 use Rattle.violation_measures.proofs.VectorLaws.{step_up_to, amount_at, at_rule}
 use Rattle.violation_measures.proofs.bound.Bound.add_step.Goals as goal
 
 pub measure-values-requires-clause-known : goal.measure-values-requires-clause-known
 measure-values-requires-clause-known g c =
     let f = g.S.FeatureSource.features c.args.source.now in
-    subst (λ (used : List ℕ). All (IsKnown f) used) (sym c.as_slice.ensures) (bound_known f c.args.self.now c.requires.source)
+    subst (λ (used : List ℕ). All (IsKnown f) used) (sym c.as_slice.ensures) (steps_measurable f c.args.self.now c.requires.source).known
 
 pub measure-values-requires-clause-few : goal.measure-values-requires-clause-few
 measure-values-requires-clause-few g c =
     let f = g.S.FeatureSource.features c.args.source.now in
-    subst (λ (used : List ℕ). length used ≤ MAX_MEASURED) (sym c.as_slice.ensures) (bound_few f c.args.self.now c.requires.source)
+    subst (λ (used : List ℕ). length used ≤ MAX_MEASURED) (sym c.as_slice.ensures) (steps_measurable f c.args.self.now c.requires.source).few
 
 pub rule_value-requires-clause-few : goal.rule_value-requires-clause-few
 rule_value-requires-clause-few g c =
@@ -63,7 +63,7 @@ loop-i-preserved g c =
     let there : c.loop-i.i < length amounts = omega (arith, inside, c.requires.width, (step_up_to f c.args.self.now c.args.step.now c.requires.source).width) in
     let value : c.rule_value.result ≡ number c.index-rules-i.result = c.rule_value.ensures.exact ∙ ap (λ (parts : List BoundPart). step_amount (measured_at values) (at_step f c.args.step.now) parts) c.as_slice-parts.ensures ∙ ap number (sym c.index-rules-i.is) in
     let here = amount_at number c.args.self.now.rules c.as_slice-rules.result.now c.index-rules-i.result c.loop-i.i c.rule_value.result c.as_slice-rules.ensures within c.index-rules-i.is value in
-    let measured : IsMeasured f c.args.step.now c.args.self.now.used values = subst (λ (used : List ℕ). IsMeasured f c.args.step.now used values) c.as_slice.ensures c.measure-values.ensures in
+    let measured : IsMeasured f c.args.step.now c.args.self.now.at_steps values = subst (λ (used : List ℕ). IsMeasured f c.args.step.now used values) c.as_slice.ensures c.measure-values.ensures in
     let vector : map number c.args.self.now.rules ≡ amounts = step_vector_is f c.args.self.now c.args.step.now values (g.met.S.FeatureSource.sound c.args.source.now) c.requires.source c.requires.step measured in
     let amount : c.rule_value.result ≡ slice_index amounts c.loop-i.i = here ∙ ap (λ (ns : List ℕ). slice_index ns c.loop-i.i) vector in
     added_one c.loop-i.out c.args.out.now amounts _ c.loop-i.i c.rule_value.result c.loop-i.invariant inside there amount c.add_at.ensures
