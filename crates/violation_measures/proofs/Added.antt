@@ -1,6 +1,6 @@
 -- A vector to which numbers are added one after the other.
-use Rattle.std.proofs.Common.{◌≡◌, ℕ, zero, suc, ◌+◌, ◌*◌, ◌<◌, ◌≤◌, ◌^◌, List, [], ◌∷◌, length, get_or, refl, sym, ap, ◌∙◌, arith}
-use Rattle.std.specs.Prelude.{All, slice_index, slice_set, replicate}
+use Rattle.std.proofs.Common.{◌≡◌, ℕ, zero, suc, ◌+◌, ◌<◌, ◌≤◌, ◌^◌, List, [], ◌∷◌, length, refl, ap, ◌∙◌, arith}
+use Rattle.std.specs.Prelude.{slice_index, slice_set}
 use Rattle.rulebook_order.specs.Sums.{sums}
 use Rattle.rulebook_order.specs.StepGraph.{HasRoom}
 
@@ -16,6 +16,9 @@ length_added zero xs ys = refl
 length_added (suc i) [] ys = refl
 length_added (suc i) (x ∷ xs) [] = refl
 length_added (suc i) (x ∷ xs) (y ∷ ys) = ap suc (length_added i xs ys)
+
+pub same_length : (out old amounts : List ℕ) (i : ℕ) → out ≡ added i old amounts → length out ≡ length old
+same_length out old amounts i is = ap length is ∙ length_added i old amounts
 
 -- those from the place on are as they were
 pub added_there : (i : ℕ) (xs ys : List ℕ) → slice_index (added i xs ys) i ≡ slice_index xs i

@@ -1,6 +1,6 @@
 -- A source that finds what the one bound finds, with the same bounds, is one that the book is bound to.
 use Rattle.std.proofs.Common.{◌≡◌, ℕ, List, Option, Some, None, refl, sym, ap, subst, ◌∙◌}
-use Rattle.std.specs.Prelude.{All, IsTrue}
+use Rattle.std.specs.Prelude.{IsTrue}
 use Rattle.expressions.specs.declared.tree.Argument.{Argument}
 use Rattle.rule_language.specs.declared.book.Rule.{Rule}
 use Rattle.rule_language.specs.declared.part.Part.{Part}

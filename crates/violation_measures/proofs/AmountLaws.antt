@@ -1,5 +1,5 @@
 -- What the parts of a bound rule add is the rule's value, and its end value.
-use Rattle.std.proofs.Common.{◌≡◌, ℕ, ◌+◌, ◌*◌, ◌≤◌, ◌^◌, Bool, true, false, cond, ℤ, List, [], ◌∷◌, map, length, refl, sym, ap, subst, ◌∙◌}
+use Rattle.std.proofs.Common.{◌≡◌, ℕ, ◌+◌, ◌*◌, ◌<◌, ◌≤◌, ◌^◌, arith, Bool, true, false, cond, ℤ, List, [], ◌∷◌, map, length, refl, sym, ap, subst, ◌∙◌}
 use Rattle.std.specs.Prelude.{All}
 use Rattle.std.specs.List.{sum_by}
 use Rattle.std.proofs.lemmas.List.{length-map}
@@ -8,14 +8,13 @@ use Rattle.std.proofs.lemmas.List.Sums.{sum_by-cons}
 use Rattle.expressions.specs.declared.tree.Expr.{Expr}
 use Rattle.rule_language.specs.declared.book.Rule.{Rule}
 use Rattle.rule_language.specs.declared.part.Part.{Part}
-use Rattle.violation_measures.specs.Amounts.{part_value, weighted, rule_value, end_value, IsBoundPart}
+use Rattle.violation_measures.specs.Amounts.{weighted, rule_value, end_value, IsBoundPart}
 use Rattle.violation_measures.specs.Binding.{IsBoundRule, IsBoundTo}
 use Rattle.violation_measures.specs.Formulas.{formula_value, resolved}
 use Rattle.violation_measures.specs.Measured.{measured_at, IsMeasured, used_by}
-use Rattle.violation_measures.specs.Resolved.{resolved_part, resolved_rule, resolved_rules, resolved_book, counted, amount, step_amount, end_amount}
+use Rattle.violation_measures.specs.Resolved.{resolved_part, resolved_rule, resolved_rules, counted, amount, step_amount, end_amount}
 use Rattle.violation_measures.specs.Sources.{Features, AreSound, IsKnown, at_step, bounds_of}
 use Rattle.violation_measures.specs.Steps.{IsStep, finish}
-use Rattle.violation_measures.specs.Values.{value}
 use Rattle.violation_measures.specs.Vectors.{value_at, end_at, step_vector, end_vector}
 use Rattle.violation_measures.specs.declared.bound.Bound.{Bound}
 use Rattle.violation_measures.specs.declared.bound.BoundPart.{BoundPart}
@@ -97,6 +96,13 @@ end_measurable f bound h = subst (λ (used : List ℕ). AreMeasurable f used) (s
 
 pub as_many : (f : Features) (bound : Bound) → IsBoundTo f bound → length bound.rules ≡ length bound.book.rules
 as_many f bound h = ap length (rules_are f bound h) ∙ length-map bound.book.rules (resolved_rule f.find bound.at_steps bound.at_end)
+
+-- a place among the rules is one in a vector, and past the rules one past it
+pub within_vector : (f : Features) (bound : Bound) (rules : List BoundRule) (vector : List ℕ) (i : ℕ) → IsBoundTo f bound → rules ≡ bound.rules → length vector ≡ length bound.book.rules → i < length rules → i < length vector
+within_vector f bound rules vector i h same long within = omega (arith, within, ap (length {A = BoundRule}) same, as_many f bound h, long)
+
+pub past_vector : (f : Features) (bound : Bound) (rules : List BoundRule) (vector : List ℕ) (i : ℕ) → IsBoundTo f bound → rules ≡ bound.rules → length vector ≡ length bound.book.rules → length rules ≤ i → length vector ≤ i
+past_vector f bound rules vector i h same long past = omega (arith, past, ap (length {A = BoundRule}) same, as_many f bound h, long)
 
 -- what is so of each bound rule
 pub record IsFew (rule : BoundRule) : Type 0 where

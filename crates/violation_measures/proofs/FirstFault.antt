@@ -1,13 +1,12 @@
 -- What a book that may be written keeps to, and which fault is the first.
-use Rattle.std.proofs.Common.{◌≡◌, Bool, true, ℕ, ◌+◌, ◌≤◌, ◌<◌, List, [], ◌∷◌, ◌++◌, length, get_or, refl, sym, subst, ◌∙◌, arith, length-append}
-use Rattle.std.specs.Prelude.{All, take, slice_index_or}
+use Rattle.std.proofs.Common.{◌≡◌, Bool, true, ℕ, ◌+◌, ◌≤◌, ◌<◌, List, [], ◌∷◌, length, get_or, refl, sym, subst, ◌∙◌}
+use Rattle.std.specs.Prelude.{All, take}
 use Rattle.std.proofs.lemmas.List.{get_or_default, take_more, take_all}
 use Rattle.std.proofs.lemmas.List.Elements.{All-nil, All-cons, All-append}
 use Rattle.rule_language.specs.Books.{IsBook}
 use Rattle.rule_language.specs.declared.book.Book.{Book}
 use Rattle.rule_language.specs.declared.book.Rule.{Rule}
-use Rattle.rule_language.specs.declared.part.Part.{Part}
-use Rattle.violation_measures.specs.Binding.{MayBind, RuleMayBind, IsFirst, IsBookPart, IsBookRule, IsBoundRule, IsBoundTo}
+use Rattle.violation_measures.specs.Binding.{RuleMayBind, IsFirst, IsBookRule, IsBoundRule, IsBoundTo}
 use Rattle.violation_measures.specs.Resolved.{resolved_book}
 use Rattle.violation_measures.specs.Sources.{Features}
 use Rattle.violation_measures.specs.declared.bound.Bound.{Bound}

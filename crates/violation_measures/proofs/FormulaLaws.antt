@@ -6,7 +6,7 @@ use Rattle.expressions.specs.declared.tree.Argument.{Argument}
 use Rattle.expressions.specs.declared.tree.Expr.{Expr}
 use Rattle.expressions.specs.declared.tree.Expr.TheViews.{roll-Expr}
 use Rattle.expressions.specs.declared.tree.Expr.TheOpen.{Expr-F}
-use Rattle.expressions.specs.declared.tree.Expr.TheFolds.{fold-Expr, fold-roll-Expr, ind-Expr, map-Expr}
+use Rattle.expressions.specs.declared.tree.Expr.TheFolds.{fold-roll-Expr, ind-Expr, map-Expr}
 use Rattle.violation_measures.specs.Checked.{cut, of_one, of_two, chosen, divided, checked_step, checked_value}
 use Rattle.violation_measures.specs.Formulas.{on_number, on_numbers, formula_step, formula_value, constant_step, constant, worked_out, one, two, choice, quotient, Find, place_among, feature_at, resolved_step, resolved}
 use Rattle.violation_measures.specs.Intervals.{is_small}
@@ -17,7 +17,7 @@ use Rattle.violation_measures.specs.declared.formula.Formula.{Formula}
 use Rattle.violation_measures.specs.declared.formula.Formula.TheVariants.{Const, Measured, Asked, One, Two, If, Div, rolls-Const, rolls-Measured, rolls-Asked, rolls-One, rolls-Two, rolls-Div}
 use Rattle.violation_measures.specs.declared.formula.Formula.TheViews.{roll-Formula}
 use Rattle.violation_measures.specs.declared.formula.Formula.TheOpen.{Formula-F}
-use Rattle.violation_measures.specs.declared.formula.Formula.TheFolds.{fold-Formula, fold-roll-Formula, ind-Formula, map-Formula}
+use Rattle.violation_measures.specs.declared.formula.Formula.TheFolds.{fold-roll-Formula, ind-Formula, map-Formula}
 use Rattle.violation_measures.specs.declared.formula.Unary.{Unary}
 use Rattle.violation_measures.specs.declared.formula.Unary.TheVariants as unary
 use Rattle.violation_measures.proofs.Choices.{at_choice}

@@ -1,7 +1,7 @@
 -- The features that are measured once a step are known, few, and stand at their places.
-use Rattle.std.proofs.Common.{◌≡◌, ℕ, ◌+◌, ◌<◌, ◌≤◌, ◌==◌, Bool, true, false, cond, ℤ, List, [], ◌∷◌, ◌++◌, length, get_or, length-append, refl, sym, ap, subst, ◌∙◌, arith, Option, None, Some}
+use Rattle.std.proofs.Common.{◌≡◌, ℕ, ◌<◌, ◌≤◌, ◌==◌, Bool, true, false, cond, ℤ, List, [], ◌∷◌, ◌++◌, length, get_or, length-append, refl, sym, ap, subst, ◌∙◌, arith, Option, None, Some}
 use Rattle.std.specs.Prelude.{All, nat_le, ◌||◌}
-use Rattle.std.specs.List.{fold, flat_map, list_any, position}
+use Rattle.std.specs.List.{fold, flat_map, list_any}
 use Rattle.std.proofs.lemmas.Bool.Decides.{nat_tests, Decides-eqb}
 use Rattle.std.proofs.lemmas.List.Concat.{flat_map-cons}
 use Rattle.std.proofs.lemmas.List.Elements.{All-nil, All-cons, All-head, All-tail, All-append}
@@ -10,7 +10,7 @@ use Rattle.expressions.specs.declared.tree.Argument.{Argument}
 use Rattle.expressions.specs.declared.tree.Expr.{Expr}
 use Rattle.expressions.specs.declared.tree.Expr.TheViews.{roll-Expr}
 use Rattle.expressions.specs.declared.tree.Expr.TheOpen.{Expr-F}
-use Rattle.expressions.specs.declared.tree.Expr.TheFolds.{fold-Expr, fold-roll-Expr, ind-Expr, map-Expr}
+use Rattle.expressions.specs.declared.tree.Expr.TheFolds.{fold-roll-Expr, ind-Expr, map-Expr}
 use Rattle.rule_language.specs.declared.book.Rule.{Rule}
 use Rattle.rule_language.specs.declared.part.Part.{Part}
 use Rattle.violation_measures.specs.Measured.{number_found, numbers_step, numbers, is_of_kind, part_numbers, rule_numbers, noted, used_by, measured_at, IsMeasured}

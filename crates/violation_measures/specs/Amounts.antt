@@ -2,7 +2,6 @@
 use Rattle.std.specs.Prelude.{ℕ, ◌≤◌, ◌*◌, ◌^◌, ℤ, pos, negsuc, min, List, IsTrue, if◌then◌else◌}
 use Rattle.std.specs.List.{sum_by}
 use Rattle.expressions.specs.Written.{is_well_formed}
-use Rattle.expressions.specs.declared.tree.Expr.{Expr}
 use Rattle.rule_language.specs.declared.part.Part.{Part}
 use Rattle.violation_measures.specs.Intervals.{all_known, all_keep}
 use Rattle.violation_measures.specs.Sources.{Features, bounds_of}

@@ -1,6 +1,6 @@
 -- What traffic and lanes answer lies in bounds.
-use Rattle.std.proofs.Common.{◌≡◌, ℕ, ◌≤◌, Bool, true, false, cond, ℤ, pos, ◌≤ℤ◌, List, [], ◌∷◌, ◌++◌, map, length, refl, sym, ap, subst, ◌∙◌, arith, Option, None, Some}
-use Rattle.std.specs.Prelude.{count_by, int_lt, int_le, unsigned_abs, ◌&&◌}
+use Rattle.std.proofs.Common.{◌≡◌, ℕ, ◌≤◌, Bool, true, false, cond, ℤ, pos, ◌≤ℤ◌, List, [], ◌∷◌, ◌++◌, map, length, refl, sym, subst, arith, Option, None, Some}
+use Rattle.std.specs.Prelude.{int_lt, int_le, unsigned_abs, ◌&&◌}
 use Rattle.std.specs.List.{fold, flat_map}
 use Rattle.std.specs.Int.{int_min}
 use Rattle.std.proofs.lemmas.Int.{ints, clamps, fold-int_min_bounds}

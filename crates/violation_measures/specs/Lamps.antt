@@ -1,12 +1,10 @@
 -- The source of the tests: one feature, with bounds 0 to 1.
-use Rattle.std.proofs.Common.{◌≡◌, ℕ, ℤ, pos, ◌≤ℤ◌, Bool, true, false, cond, ◌&&◌, ◌==◌, ◌%◌, List, Option, Some, None, arith}
+use Rattle.std.proofs.Common.{ℕ, ℤ, pos, Bool, true, false, cond, ◌&&◌, ◌==◌, ◌%◌, Some, None, arith}
 use Rattle.std.specs.Prelude.{codes, is_none}
 use Rattle.std.specs.Str.{bytes_eq}
 use Rattle.std.proofs.lemmas.Int.{ints}
-use Rattle.expressions.specs.declared.tree.Argument.{Argument}
 use Rattle.violation_measures.specs.Intervals.{IsIn, from_to}
 use Rattle.violation_measures.specs.Sources.{Features, AreSound}
-use Rattle.violation_measures.specs.declared.step.Step.{Step}
 
 -- whether a lamp is lit at a tick
 abbrev pub lit : ℕ → ℤ

@@ -1,8 +1,8 @@
 -- The features of a scene have numbers of their own, and lie in their bounds.
-use Rattle.std.proofs.Common.{◌≡◌, ℕ, ◌+◌, ◌-◌, ◌<◌, ◌≤◌, Bool, true, false, not, ◌==◌, cond, ℤ, pos, ◌≤ℤ◌, neg_ℤ, List, [], ◌∷◌, map, length, get_or, refl, sym, ap, subst, ◌∙◌, arith, Option, None, Some}
-use Rattle.std.specs.Prelude.{IsSome, IsTrue, ◌↔◌, codes, nat_lt, count_by, unsigned_abs}
+use Rattle.std.proofs.Common.{◌≡◌, ℕ, ◌+◌, ◌-◌, ◌<◌, ◌≤◌, Bool, true, false, not, cond, ℤ, pos, ◌≤ℤ◌, neg_ℤ, List, [], length, get_or, refl, sym, ap, subst, ◌∙◌, arith, Option, None, Some}
+use Rattle.std.specs.Prelude.{IsSome, ◌↔◌, codes, nat_lt, unsigned_abs}
 use Rattle.std.specs.List.{position, list_any}
-use Rattle.std.specs.Option.{option_map, option_map_or}
+use Rattle.std.specs.Option.{option_map}
 use Rattle.std.specs.Str.{bytes_eq}
 use Rattle.std.proofs.lemmas.Int.{ints}
 use Rattle.std.proofs.lemmas.Bool.Decides.{nat_tests, Decides-eqb}
@@ -14,11 +14,11 @@ use Rattle.expressions.specs.declared.tree.Argument.TheVariants.{Named, Number}
 use Rattle.fixed_geometry.specs.declared.point.Point.{Point}
 use Rattle.fixed_geometry.specs.declared.point.Box2.{Box2}
 use Rattle.fixed_geometry.specs.Shapes.{rectangle}
-use Rattle.lanelet_network.specs.Lanes.{Lane, has_id, holds, count_at}
+use Rattle.lanelet_network.specs.Lanes.{Lane, has_id, holds}
 use Rattle.scenario_model.specs.declared.problem.Span.{Span}
 use Rattle.violation_measures.specs.Intervals.{IsIn}
-use Rattle.violation_measures.specs.Scenes.{Scene, one_if, is_driven, ego, plain, in_lanelet, maneuver, known, value_in, bounds_in, number, numbered, features_of, HasTable}
-use Rattle.violation_measures.specs.Sources.{AreSound, IsKnown}
+use Rattle.violation_measures.specs.Scenes.{Scene, one_if, ego, plain, in_lanelet, maneuver, known, value_in, bounds_in, number, numbered, features_of, HasTable}
+use Rattle.violation_measures.specs.Sources.{AreSound}
 use Rattle.violation_measures.specs.Steps.{IsStep}
 use Rattle.violation_measures.specs.declared.feature.Feature.{Feature}
 use Rattle.violation_measures.specs.declared.feature.Feature.TheVariants as feature

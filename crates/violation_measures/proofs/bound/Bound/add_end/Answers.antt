@@ -10,8 +10,8 @@ use Rattle.violation_measures.specs.declared.bound.BoundRule.{BoundRule}
 use Rattle.violation_measures.specs.declared.bound.adding.TheConstants.{MAX_AMOUNT}
 use Rattle.violation_measures.specs.declared.step.Step.{Step}
 use Rattle.violation_measures.specs.declared.used.TheConstants.{MAX_MEASURED}
-use Rattle.violation_measures.proofs.Added.{length_added, added_one, added_all, room_at}
-use Rattle.violation_measures.proofs.AmountLaws.{IsFew, each_few, as_many, end_measurable, end_vector_is}
+use Rattle.violation_measures.proofs.Added.{same_length, added_one, added_all, room_at}
+use Rattle.violation_measures.proofs.AmountLaws.{IsFew, each_few, within_vector, past_vector, end_measurable, end_vector_is}
 use Rattle.violation_measures.proofs.VectorLaws.{end_up_to, amount_at, at_rule}
 use Rattle.violation_measures.proofs.bound.Bound.add_end.Goals as goal
 
@@ -44,14 +44,15 @@ add_at-requires-clause-in_range g c =
     let f = g.S.FeatureSource.features c.args.source.now in
     let amounts = end_vector f c.args.self.now c.args.step.now in
     let within : c.loop-i.i < length c.as_slice-rules.result.now = search rules in
-    omega (arith, within, ap (length {A = BoundRule}) c.as_slice-rules.ensures, as_many f c.args.self.now c.requires.source, c.requires.width, ap length c.loop-i.invariant, length_added c.loop-i.i c.args.out.now amounts)
+    let inside = within_vector f c.args.self.now c.as_slice-rules.result.now c.args.out.now c.loop-i.i c.requires.source c.as_slice-rules.ensures c.requires.width within in
+    omega (arith, inside, same_length c.loop-i.out c.args.out.now amounts c.loop-i.i c.loop-i.invariant)
 
 pub add_at-requires-clause-fits : goal.add_at-requires-clause-fits
 add_at-requires-clause-fits g c =
     let f = g.S.FeatureSource.features c.args.source.now in
     let amounts = end_vector f c.args.self.now c.args.step.now in
     let within : c.loop-i.i < length c.as_slice-rules.result.now = search rules in
-    let inside : c.loop-i.i < length c.args.out.now = omega (arith, within, ap (length {A = BoundRule}) c.as_slice-rules.ensures, as_many f c.args.self.now c.requires.source, c.requires.width) in
+    let inside = within_vector f c.args.self.now c.as_slice-rules.result.now c.args.out.now c.loop-i.i c.requires.source c.as_slice-rules.ensures c.requires.width within in
     room_at c.loop-i.out c.args.out.now amounts c.loop-i.i MAX_AMOUNT c.end_value.result c.requires.room c.loop-i.invariant inside c.end_value.ensures.small
 
 pub loop-i-preserved : goal.loop-i-preserved
@@ -61,7 +62,7 @@ loop-i-preserved g c =
     let values = c.measure-values.result in
     let number : BoundRule → ℕ = λ rule. end_amount (measured_at values) (at_step f (finish c.args.step.now)) rule.parts in
     let within : c.loop-i.i < length c.as_slice-rules.result.now = search rules in
-    let inside : c.loop-i.i < length c.args.out.now = omega (arith, within, ap (length {A = BoundRule}) c.as_slice-rules.ensures, as_many f c.args.self.now c.requires.source, c.requires.width) in
+    let inside = within_vector f c.args.self.now c.as_slice-rules.result.now c.args.out.now c.loop-i.i c.requires.source c.as_slice-rules.ensures c.requires.width within in
     let there : c.loop-i.i < length amounts = omega (arith, inside, c.requires.width, (end_up_to f c.args.self.now c.args.step.now c.requires.source).width) in
     let value : c.end_value.result ≡ number c.index-rules-i.result = c.end_value.ensures.exact ∙ ap (λ (last : Step). end_amount (measured_at values) (at_step f last) c.as_slice-parts.result.now) c.finish-last.ensures.value ∙ ap (λ (parts : List BoundPart). end_amount (measured_at values) (at_step f (finish c.args.step.now)) parts) c.as_slice-parts.ensures ∙ ap number (sym c.index-rules-i.is) in
     let here = amount_at number c.args.self.now.rules c.as_slice-rules.result.now c.index-rules-i.result c.loop-i.i c.end_value.result c.as_slice-rules.ensures within c.index-rules-i.is value in
@@ -77,5 +78,5 @@ returns g c =
     let amounts = end_vector f c.args.self.now c.args.step.now in
     let far : length c.as_slice-rules.result.now ≤ c.loop-i.i = search rules in
     let same : length c.args.out.now ≡ length amounts = omega (arith, c.requires.width, (end_up_to f c.args.self.now c.args.step.now c.requires.source).width) in
-    let past : length c.args.out.now ≤ c.loop-i.i = omega (arith, far, ap (length {A = BoundRule}) c.as_slice-rules.ensures, as_many f c.args.self.now c.requires.source, c.requires.width) in
+    let past = past_vector f c.args.self.now c.as_slice-rules.result.now c.args.out.now c.loop-i.i c.requires.source c.as_slice-rules.ensures c.requires.width far in
     c.loop-i.invariant ∙ added_all c.loop-i.i c.args.out.now amounts same past

@@ -8,8 +8,8 @@ use Rattle.violation_measures.specs.declared.bound.BoundPart.{BoundPart}
 use Rattle.violation_measures.specs.declared.bound.BoundRule.{BoundRule}
 use Rattle.violation_measures.specs.declared.bound.adding.TheConstants.{MAX_AMOUNT}
 use Rattle.violation_measures.specs.declared.used.TheConstants.{MAX_MEASURED}
-use Rattle.violation_measures.proofs.Added.{length_added, added_one, added_all, room_at}
-use Rattle.violation_measures.proofs.AmountLaws.{IsFew, each_few, as_many, steps_measurable, step_vector_is}
+use Rattle.violation_measures.proofs.Added.{same_length, added_one, added_all, room_at}
+use Rattle.violation_measures.proofs.AmountLaws.{IsFew, each_few, within_vector, past_vector, steps_measurable, step_vector_is}
 use Rattle.violation_measures.proofs.VectorLaws.{step_up_to, amount_at, at_rule}
 use Rattle.violation_measures.proofs.bound.Bound.add_step.Goals as goal
 
@@ -42,14 +42,15 @@ add_at-requires-clause-in_range g c =
     let f = g.S.FeatureSource.features c.args.source.now in
     let amounts = step_vector f c.args.self.now c.args.step.now in
     let within : c.loop-i.i < length c.as_slice-rules.result.now = search rules in
-    omega (arith, within, ap (length {A = BoundRule}) c.as_slice-rules.ensures, as_many f c.args.self.now c.requires.source, c.requires.width, ap length c.loop-i.invariant, length_added c.loop-i.i c.args.out.now amounts)
+    let inside = within_vector f c.args.self.now c.as_slice-rules.result.now c.args.out.now c.loop-i.i c.requires.source c.as_slice-rules.ensures c.requires.width within in
+    omega (arith, inside, same_length c.loop-i.out c.args.out.now amounts c.loop-i.i c.loop-i.invariant)
 
 pub add_at-requires-clause-fits : goal.add_at-requires-clause-fits
 add_at-requires-clause-fits g c =
     let f = g.S.FeatureSource.features c.args.source.now in
     let amounts = step_vector f c.args.self.now c.args.step.now in
     let within : c.loop-i.i < length c.as_slice-rules.result.now = search rules in
-    let inside : c.loop-i.i < length c.args.out.now = omega (arith, within, ap (length {A = BoundRule}) c.as_slice-rules.ensures, as_many f c.args.self.now c.requires.source, c.requires.width) in
+    let inside = within_vector f c.args.self.now c.as_slice-rules.result.now c.args.out.now c.loop-i.i c.requires.source c.as_slice-rules.ensures c.requires.width within in
     room_at c.loop-i.out c.args.out.now amounts c.loop-i.i MAX_AMOUNT c.rule_value.result c.requires.room c.loop-i.invariant inside c.rule_value.ensures.small
 
 pub loop-i-preserved : goal.loop-i-preserved
@@ -59,7 +60,7 @@ loop-i-preserved g c =
     let values = c.measure-values.result in
     let number : BoundRule → ℕ = λ rule. step_amount (measured_at values) (at_step f c.args.step.now) rule.parts in
     let within : c.loop-i.i < length c.as_slice-rules.result.now = search rules in
-    let inside : c.loop-i.i < length c.args.out.now = omega (arith, within, ap (length {A = BoundRule}) c.as_slice-rules.ensures, as_many f c.args.self.now c.requires.source, c.requires.width) in
+    let inside = within_vector f c.args.self.now c.as_slice-rules.result.now c.args.out.now c.loop-i.i c.requires.source c.as_slice-rules.ensures c.requires.width within in
     let there : c.loop-i.i < length amounts = omega (arith, inside, c.requires.width, (step_up_to f c.args.self.now c.args.step.now c.requires.source).width) in
     let value : c.rule_value.result ≡ number c.index-rules-i.result = c.rule_value.ensures.exact ∙ ap (λ (parts : List BoundPart). step_amount (measured_at values) (at_step f c.args.step.now) parts) c.as_slice-parts.ensures ∙ ap number (sym c.index-rules-i.is) in
     let here = amount_at number c.args.self.now.rules c.as_slice-rules.result.now c.index-rules-i.result c.loop-i.i c.rule_value.result c.as_slice-rules.ensures within c.index-rules-i.is value in
@@ -74,5 +75,5 @@ returns g c =
     let amounts = step_vector f c.args.self.now c.args.step.now in
     let far : length c.as_slice-rules.result.now ≤ c.loop-i.i = search rules in
     let same : length c.args.out.now ≡ length amounts = omega (arith, c.requires.width, (step_up_to f c.args.self.now c.args.step.now c.requires.source).width) in
-    let past : length c.args.out.now ≤ c.loop-i.i = omega (arith, far, ap (length {A = BoundRule}) c.as_slice-rules.ensures, as_many f c.args.self.now c.requires.source, c.requires.width) in
+    let past = past_vector f c.args.self.now c.as_slice-rules.result.now c.args.out.now c.loop-i.i c.requires.source c.as_slice-rules.ensures c.requires.width far in
     c.loop-i.invariant ∙ added_all c.loop-i.i c.args.out.now amounts same past

@@ -1,4 +1,4 @@
-use Rattle.std.proofs.Common.{◌≡◌, take, map}
+use Rattle.std.proofs.Common.{◌≡◌, take}
 use Rattle.violation_measures.specs.Resolved.{resolved_rules}
 use Rattle.violation_measures.proofs.bound.binding.resolve_rules.Given as goal
 
