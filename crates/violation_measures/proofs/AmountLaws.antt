@@ -7,6 +7,7 @@ use Rattle.std.proofs.lemmas.List.Elements.{All-head, All-tail, All-map}
 use Rattle.std.proofs.lemmas.List.Sums.{sum_by-cons}
 use Rattle.expressions.specs.declared.tree.Expr.{Expr}
 use Rattle.rule_language.specs.declared.book.Rule.{Rule}
+use Rattle.rule_language.specs.declared.limits.TheConstants.{MAX_PARTS, MAX_WEIGHT}
 use Rattle.rule_language.specs.declared.part.Part.{Part}
 use Rattle.violation_measures.specs.Amounts.{weighted, rule_value, end_value, IsBoundPart}
 use Rattle.violation_measures.specs.Binding.{IsBoundRule, IsBoundTo}
@@ -106,8 +107,8 @@ past_vector f bound rules vector i h same long past = omega (arith, past, ap (le
 
 -- what is so of each bound rule
 pub record IsFew (rule : BoundRule) : Type 0 where
-  pub few : length rule.parts ≤ 8
-  pub weights : All (λ (part : BoundPart). part.weight ≤ 10 ^ 6) rule.parts
+  pub few : length rule.parts ≤ MAX_PARTS
+  pub weights : All (λ (part : BoundPart). part.weight ≤ MAX_WEIGHT) rule.parts
 
 pub each_few : (f : Features) (bound : Bound) → IsBoundTo f bound → All IsFew bound.rules
 each_few f bound h =
@@ -115,8 +116,8 @@ each_few f bound h =
     (All-map IsFew (resolved_rule f.find bound.at_steps bound.at_end) bound.book.rules (λ i rule within.
     let r = h.rules i rule within in
     record {
-      few = subst (λ (n : ℕ). n ≤ 8) (sym (length-map _ (resolved_part f.find bound.at_steps bound.at_end))) r.few;
-      weights = All-map (λ (part : BoundPart). part.weight ≤ 10 ^ 6) (resolved_part f.find bound.at_steps bound.at_end) _ (λ j part here. (r.parts j part here).weight);
+      few = subst (λ (n : ℕ). n ≤ MAX_PARTS) (sym (length-map _ (resolved_part f.find bound.at_steps bound.at_end))) r.few;
+      weights = All-map (λ (part : BoundPart). part.weight ≤ MAX_WEIGHT) (resolved_part f.find bound.at_steps bound.at_end) _ (λ j part here. (r.parts j part here).weight);
     }))
 
 pub step_vector_is : (f : Features) (bound : Bound) (step : Step) (values : List ℤ) → AreSound f → IsBoundTo f bound → IsStep step → IsMeasured f step bound.at_steps values

@@ -10,18 +10,19 @@ use crate::bound::BoundPart;
 use crate::source::FeatureSource;
 use crate::step::Step;
 use crate::value::value_of;
+use rule_language::{MAX_PARTS, MAX_WEIGHT};
 
 /// The most that a part counts at a step.
-pub const MAX_PART_VALUE: i128 = 1_000_000_000;
+pub const MAX_PART_VALUE: u64 = 1_000_000_000;
 
 fn cut_to_range(value: i128) -> u64
     ensures exact { result ≡ part_value value }
-    ensures small { result ≤ 10 ^ 9 }
+    ensures small { result ≤ MAX_PART_VALUE }
 {
     if value < 0 {
         0
     } else {
-        value.min(MAX_PART_VALUE) as u64
+        value.min(i128::from(MAX_PART_VALUE)) as u64
     }
 }
 
@@ -29,7 +30,7 @@ fn cut_to_range(value: i128) -> u64
 fn counted<S: FeatureSource>(source: &S, step: &Step, values: &[i64], part: &BoundPart) -> u64
     requires { IsStep step.now }
     ensures exact { result ≡ counted (formula_value (measured_at values.now) (at_step (S.features source.now) step.now) part.now.formula) }
-    ensures small { result ≤ 10 ^ 9 }
+    ensures small { result ≤ MAX_PART_VALUE }
 {
     match value_of(source, step, values, &part.formula) {
         Some(value) => cut_to_range(value),
@@ -39,8 +40,8 @@ fn counted<S: FeatureSource>(source: &S, step: &Step, values: &[i64], part: &Bou
 
 #[tactic(auto, using(crate::proofs::Sizes::weighted_fits))]
 fn scaled(weight: u64, value: u64) -> u64
-    requires weight { weight ≤ 10 ^ 6 }
-    requires value { value ≤ 10 ^ 9 }
+    requires weight { weight ≤ MAX_WEIGHT }
+    requires value { value ≤ MAX_PART_VALUE }
     ensures exact { result ≡ weight * value }
     ensures small { result ≤ 10 ^ 15 }
 {
@@ -50,7 +51,7 @@ fn scaled(weight: u64, value: u64) -> u64
 // What a part adds at a step: its weight times its value, and nothing where it is final.
 fn part_amount<S: FeatureSource>(source: &S, step: &Step, values: &[i64], part: &BoundPart) -> u64
     requires step { IsStep step.now }
-    requires weight { part.now.weight ≤ 10 ^ 6 }
+    requires weight { part.now.weight ≤ MAX_WEIGHT }
     ensures exact { result ≡ (if part.now.at_end then 0 else amount (measured_at values.now) (at_step (S.features source.now) step.now) part.now) }
     ensures small { result ≤ 10 ^ 15 }
 {
@@ -63,7 +64,7 @@ fn part_amount<S: FeatureSource>(source: &S, step: &Step, values: &[i64], part: 
 // What a part adds at the end: its weight times its value where it is final, and nothing else.
 fn final_amount<S: FeatureSource>(source: &S, step: &Step, values: &[i64], part: &BoundPart) -> u64
     requires step { IsStep step.now }
-    requires weight { part.now.weight ≤ 10 ^ 6 }
+    requires weight { part.now.weight ≤ MAX_WEIGHT }
     ensures exact { result ≡ (if part.now.at_end then amount (measured_at values.now) (at_step (S.features source.now) step.now) part.now else 0) }
     ensures small { result ≤ 10 ^ 15 }
 {
@@ -81,8 +82,8 @@ pub fn rule_value<S: FeatureSource>(
     parts: &[BoundPart],
 ) -> u64
     requires step { IsStep step.now }
-    requires few { length parts.now ≤ 8 }
-    requires weights { All (λ part. part.weight ≤ 10 ^ 6) parts.now }
+    requires few { length parts.now ≤ MAX_PARTS }
+    requires weights { All (λ part. part.weight ≤ MAX_WEIGHT) parts.now }
     ensures exact { result ≡ step_amount (measured_at values.now) (at_step (S.features source.now) step.now) parts.now }
     ensures small { result ≤ 8 * 10 ^ 15 }
 {
@@ -101,8 +102,8 @@ pub fn end_value<S: FeatureSource>(
     parts: &[BoundPart],
 ) -> u64
     requires step { IsStep step.now }
-    requires few { length parts.now ≤ 8 }
-    requires weights { All (λ part. part.weight ≤ 10 ^ 6) parts.now }
+    requires few { length parts.now ≤ MAX_PARTS }
+    requires weights { All (λ part. part.weight ≤ MAX_WEIGHT) parts.now }
     ensures exact { result ≡ end_amount (measured_at values.now) (at_step (S.features source.now) step.now) parts.now }
     ensures small { result ≤ 8 * 10 ^ 15 }
 {

@@ -1,5 +1,6 @@
 use Rattle.std.proofs.Common.{rules, arith, ◌≡◌, ◌<◌, ◌≤◌, ◌^◌, ℕ, List, map, length, ap, sym, subst, ◌∙◌}
 use Rattle.std.specs.Prelude.{All, slice_index}
+use Rattle.rule_language.specs.declared.limits.TheConstants.{MAX_PARTS, MAX_WEIGHT}
 use Rattle.violation_measures.specs.Measured.{measured_at, IsMeasured}
 use Rattle.violation_measures.specs.Resolved.{end_amount}
 use Rattle.violation_measures.specs.Sources.{IsKnown, at_step}
@@ -30,14 +31,14 @@ end_value-requires-clause-few g c =
     let f = g.S.FeatureSource.features c.args.source.now in
     let within : c.loop-i.i < length c.as_slice-rules.result.now = search rules in
     let rule = at_rule IsFew c.args.self.now.rules c.as_slice-rules.result.now c.index-rules-i.result c.loop-i.i c.as_slice-rules.ensures within c.index-rules-i.is (each_few f c.args.self.now c.requires.source) in
-    subst (λ (parts : List BoundPart). length parts ≤ 8) (sym c.as_slice-parts.ensures) (subst IsFew c.index-rules-i.is rule).few
+    subst (λ (parts : List BoundPart). length parts ≤ MAX_PARTS) (sym c.as_slice-parts.ensures) (subst IsFew c.index-rules-i.is rule).few
 
 pub end_value-requires-clause-weights : goal.end_value-requires-clause-weights
 end_value-requires-clause-weights g c =
     let f = g.S.FeatureSource.features c.args.source.now in
     let within : c.loop-i.i < length c.as_slice-rules.result.now = search rules in
     let rule = at_rule IsFew c.args.self.now.rules c.as_slice-rules.result.now c.index-rules-i.result c.loop-i.i c.as_slice-rules.ensures within c.index-rules-i.is (each_few f c.args.self.now c.requires.source) in
-    subst (λ (parts : List BoundPart). All (λ (part : BoundPart). part.weight ≤ 10 ^ 6) parts) (sym c.as_slice-parts.ensures) (subst IsFew c.index-rules-i.is rule).weights
+    subst (λ (parts : List BoundPart). All (λ (part : BoundPart). part.weight ≤ MAX_WEIGHT) parts) (sym c.as_slice-parts.ensures) (subst IsFew c.index-rules-i.is rule).weights
 
 pub add_at-requires-clause-in_range : goal.add_at-requires-clause-in_range
 add_at-requires-clause-in_range g c =
@@ -64,7 +65,8 @@ loop-i-preserved g c =
     let within : c.loop-i.i < length c.as_slice-rules.result.now = search rules in
     let inside = within_vector f c.args.self.now c.as_slice-rules.result.now c.args.out.now c.loop-i.i c.requires.source c.as_slice-rules.ensures c.requires.width within in
     let there : c.loop-i.i < length amounts = omega (arith, inside, c.requires.width, (end_up_to f c.args.self.now c.args.step.now c.requires.source).width) in
-    let value : c.end_value.result ≡ number c.index-rules-i.result = c.end_value.ensures.exact ∙ ap (λ (last : Step). end_amount (measured_at values) (at_step f last) c.as_slice-parts.result.now) c.finish-last.ensures.value ∙ ap (λ (parts : List BoundPart). end_amount (measured_at values) (at_step f (finish c.args.step.now)) parts) c.as_slice-parts.ensures ∙ ap number (sym c.index-rules-i.is) in
+    let counts : List BoundPart → ℕ = λ parts. end_amount (measured_at values) (at_step f (finish c.args.step.now)) parts in
+    let value : c.end_value.result ≡ number c.index-rules-i.result = c.end_value.ensures.exact ∙ ap (λ (last : Step). end_amount (measured_at values) (at_step f last) c.as_slice-parts.result.now) c.finish-last.ensures.value ∙ ap counts c.as_slice-parts.ensures ∙ ap number (sym c.index-rules-i.is) in
     let here = amount_at number c.args.self.now.rules c.as_slice-rules.result.now c.index-rules-i.result c.loop-i.i c.end_value.result c.as_slice-rules.ensures within c.index-rules-i.is value in
     let last : IsStep (finish c.args.step.now) = subst IsStep c.finish-last.ensures.value (c.finish-last.ensures.ranges c.requires.step) in
     let measured : IsMeasured f (finish c.args.step.now) c.args.self.now.at_end values = subst (λ (used : List ℕ). IsMeasured f (finish c.args.step.now) used values) c.as_slice.ensures (subst (λ (last : Step). IsMeasured f last c.as_slice.result.now values) c.finish-last.ensures.value c.measure-values.ensures) in
