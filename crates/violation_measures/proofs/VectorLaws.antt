@@ -1,6 +1,6 @@
 -- What steps and ends add, and the sums of runs.
 use Rattle.std.proofs.Common.{◌≡◌, ℕ, ◌+◌, ◌-◌, take, ◌*◌, ◌≤◌, ◌<◌, ◌^◌, Bool, true, false, cond, ℤ, pos, negsuc, List, [], ◌∷◌, ◌++◌, map, length, get_or, refl, sym, ap, subst, ◌∙◌, zero-add, arith, Option, None, Some}
-use Rattle.std.specs.Prelude.{All, replicate, slice_index}
+use Rattle.std.specs.Prelude.{All, replicate, slice_index, slice_set}
 use Rattle.std.specs.List.{sum_by, last_or}
 use Rattle.std.proofs.lemmas.List.{length-map, length-take, get_or-map, take_more}
 use Rattle.std.proofs.Math.Seq.{take-length}
@@ -19,8 +19,10 @@ use Rattle.violation_measures.specs.Sources.{Features, at_step}
 use Rattle.violation_measures.specs.Values.{Valuation, value}
 use Rattle.violation_measures.specs.Vectors.{width, value_at, end_at, step_vector, end_vector, run, end_after, trajectory_vector, IsUpTo}
 use Rattle.violation_measures.specs.declared.bound.Bound.{Bound}
+use Rattle.violation_measures.specs.declared.bound.BoundPart.{BoundPart}
 use Rattle.violation_measures.specs.declared.bound.BoundRule.{BoundRule}
 use Rattle.violation_measures.specs.declared.step.Step.{Step}
+use Rattle.violation_measures.proofs.Added.{added, added_one}
 use Rattle.violation_measures.proofs.Sizes.{weighted_fits}
 
 -- ---- lists of numbers, one for each item
@@ -124,6 +126,15 @@ pub amount_at : (number : BoundRule → ℕ) (own rules : List BoundRule) (rule 
 amount_at number own rules rule i amount same within here is =
     let inside : i < length own = omega (arith, within, ap (length {A = BoundRule}) same) in
     is ∙ ap number (here ∙ ap (λ (rs : List BoundRule). get_or rs i rule) same) ∙ sym (get_or-map number own i rule 0 inside)
+
+-- the rule's amount is added at its place
+pub rule_added : (count : List BoundPart → ℕ) (own rules : List BoundRule) (rule : BoundRule) (parts : List BoundPart) (amounts old out new : List ℕ) (i amount : ℕ)
+    → rules ≡ own → i < length rules → rule ≡ get_or rules i rule → parts ≡ (get_or rules i rule).parts → amount ≡ count parts → map (λ (r : BoundRule). count r.parts) own ≡ amounts
+    → out ≡ added i old amounts → i < length old → i < length amounts → new ≡ slice_set out i (slice_index out i + amount) → new ≡ added (i + 1) old amounts
+rule_added count own rules rule parts amounts old out new i amount same within here of counted vector before inside there is =
+    let value : amount ≡ count rule.parts = counted ∙ ap count of ∙ ap (λ (r : BoundRule). count r.parts) (sym here) in
+    let number = amount_at (λ (r : BoundRule). count r.parts) own rules rule i amount same within here value in
+    added_one out old amounts new i amount before inside there (number ∙ ap (λ (ns : List ℕ). slice_index ns i) vector) is
 
 -- what is so of each rule is so of the rule at a place
 pub at_rule : (P : BoundRule → Type 0) (own rules : List BoundRule) (rule : BoundRule) (i : ℕ) → rules ≡ own → i < length rules → rule ≡ get_or rules i rule → All P own → P rule

@@ -1,5 +1,5 @@
 -- What the parts of a rule amount to at a step, and at the end. This project's own, for the rulebooks of Censi and others, 2019.
-use Rattle.std.specs.Prelude.{ℕ, ◌≤◌, ◌*◌, ◌^◌, ℤ, pos, negsuc, min, List, IsTrue, if◌then◌else◌}
+use Rattle.std.specs.Prelude.{ℕ, ◌≤◌, ◌*◌, ℤ, pos, negsuc, min, List, IsTrue, if◌then◌else◌}
 use Rattle.std.specs.List.{sum_by}
 use Rattle.expressions.specs.Written.{is_well_formed}
 use Rattle.rule_language.specs.declared.limits.TheConstants.{MAX_WEIGHT}

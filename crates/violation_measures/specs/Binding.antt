@@ -1,5 +1,5 @@
 -- When a book is bound to a source of features, and which is its first fault. This project's own.
-use Rattle.std.specs.Prelude.{◌≡◌, ℕ, ◌<◌, ◌≤◌, ◌^◌, List, [], length, take, All, IsTrue, slice_index_or}
+use Rattle.std.specs.Prelude.{◌≡◌, ℕ, ◌<◌, ◌≤◌, List, [], length, take, All, IsTrue, slice_index_or}
 use Rattle.expressions.specs.Written.{is_well_formed}
 use Rattle.rule_language.specs.declared.book.Rule.{Rule}
 use Rattle.rule_language.specs.declared.limits.TheConstants.{MAX_PARTS, MAX_RULES, MAX_WEIGHT}

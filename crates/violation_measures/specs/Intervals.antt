@@ -1,5 +1,5 @@
 -- The interval of an expression, from the bounds of features. This project's own.
-use Rattle.std.specs.Prelude.{ℕ, ◌^◌, ℤ, pos, ◌+ℤ◌, ◌-ℤ◌, ◌*ℤ◌, ◌≤ℤ◌, neg_ℤ, unsigned_abs, int_div, int_le, Bool, true, ◌&&◌, nat_le, List, Option, is_some, if◌then◌else◌}
+use Rattle.std.specs.Prelude.{ℕ, ℤ, pos, ◌+ℤ◌, ◌-ℤ◌, ◌*ℤ◌, ◌≤ℤ◌, neg_ℤ, unsigned_abs, int_div, int_le, Bool, true, ◌&&◌, nat_le, List, Option, is_some, if◌then◌else◌}
 use Rattle.std.specs.Int.{int_min, int_max}
 use Rattle.scenario_model.specs.declared.problem.Span.{Span}
 use Rattle.expressions.specs.declared.tree.Argument.{Argument}

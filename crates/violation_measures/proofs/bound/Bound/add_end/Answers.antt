@@ -1,5 +1,5 @@
-use Rattle.std.proofs.Common.{rules, arith, ◌≡◌, ◌<◌, ◌≤◌, ◌^◌, ℕ, List, map, length, ap, sym, subst, ◌∙◌}
-use Rattle.std.specs.Prelude.{All, slice_index}
+use Rattle.std.proofs.Common.{rules, arith, ◌≡◌, ◌<◌, ◌≤◌, ℕ, List, length, sym, subst, ◌∙◌}
+use Rattle.std.specs.Prelude.{All}
 use Rattle.rule_language.specs.declared.limits.TheConstants.{MAX_PARTS, MAX_WEIGHT}
 use Rattle.violation_measures.specs.Measured.{measured_at, IsMeasured}
 use Rattle.violation_measures.specs.Resolved.{end_amount}
@@ -7,13 +7,12 @@ use Rattle.violation_measures.specs.Sources.{IsKnown, at_step}
 use Rattle.violation_measures.specs.Steps.{IsStep, finish}
 use Rattle.violation_measures.specs.Vectors.{end_vector}
 use Rattle.violation_measures.specs.declared.bound.BoundPart.{BoundPart}
-use Rattle.violation_measures.specs.declared.bound.BoundRule.{BoundRule}
 use Rattle.violation_measures.specs.declared.bound.adding.TheConstants.{MAX_AMOUNT}
 use Rattle.violation_measures.specs.declared.step.Step.{Step}
 use Rattle.violation_measures.specs.declared.used.TheConstants.{MAX_MEASURED}
-use Rattle.violation_measures.proofs.Added.{same_length, added_one, added_all, room_at}
+use Rattle.violation_measures.proofs.Added.{same_length, added_all, room_at}
 use Rattle.violation_measures.proofs.AmountLaws.{IsFew, each_few, within_vector, past_vector, end_measurable, end_vector_is}
-use Rattle.violation_measures.proofs.VectorLaws.{end_up_to, amount_at, at_rule}
+use Rattle.violation_measures.proofs.VectorLaws.{end_up_to, rule_added, at_rule}
 use Rattle.violation_measures.proofs.bound.Bound.add_end.Goals as goal
 
 pub measure-values-requires-clause-known : goal.measure-values-requires-clause-known
@@ -61,18 +60,15 @@ loop-i-preserved g c =
     let f = g.S.FeatureSource.features c.args.source.now in
     let amounts = end_vector f c.args.self.now c.args.step.now in
     let values = c.measure-values.result in
-    let number : BoundRule → ℕ = λ rule. end_amount (measured_at values) (at_step f (finish c.args.step.now)) rule.parts in
     let within : c.loop-i.i < length c.as_slice-rules.result.now = search rules in
     let inside = within_vector f c.args.self.now c.as_slice-rules.result.now c.args.out.now c.loop-i.i c.requires.source c.as_slice-rules.ensures c.requires.width within in
-    let there : c.loop-i.i < length amounts = omega (arith, inside, c.requires.width, (end_up_to f c.args.self.now c.args.step.now c.requires.source).width) in
-    let counts : List BoundPart → ℕ = λ parts. end_amount (measured_at values) (at_step f (finish c.args.step.now)) parts in
-    let value : c.end_value.result ≡ number c.index-rules-i.result = c.end_value.ensures.exact ∙ ap (λ (last : Step). end_amount (measured_at values) (at_step f last) c.as_slice-parts.result.now) c.finish-last.ensures.value ∙ ap counts c.as_slice-parts.ensures ∙ ap number (sym c.index-rules-i.is) in
-    let here = amount_at number c.args.self.now.rules c.as_slice-rules.result.now c.index-rules-i.result c.loop-i.i c.end_value.result c.as_slice-rules.ensures within c.index-rules-i.is value in
+    let there = within_vector f c.args.self.now c.as_slice-rules.result.now amounts c.loop-i.i c.requires.source c.as_slice-rules.ensures (end_up_to f c.args.self.now c.args.step.now c.requires.source).width within in
     let last : IsStep (finish c.args.step.now) = subst IsStep c.finish-last.ensures.value (c.finish-last.ensures.ranges c.requires.step) in
-    let measured : IsMeasured f (finish c.args.step.now) c.args.self.now.at_end values = subst (λ (used : List ℕ). IsMeasured f (finish c.args.step.now) used values) c.as_slice.ensures (subst (λ (last : Step). IsMeasured f last c.as_slice.result.now values) c.finish-last.ensures.value c.measure-values.ensures) in
-    let vector : map number c.args.self.now.rules ≡ amounts = end_vector_is f c.args.self.now c.args.step.now values (g.met.S.FeatureSource.sound c.args.source.now) c.requires.source last measured in
-    let amount : c.end_value.result ≡ slice_index amounts c.loop-i.i = here ∙ ap (λ (ns : List ℕ). slice_index ns c.loop-i.i) vector in
-    added_one c.loop-i.out c.args.out.now amounts _ c.loop-i.i c.end_value.result c.loop-i.invariant inside there amount c.add_at.ensures
+    let measured : IsMeasured f (finish c.args.step.now) c.args.self.now.at_end values = subst (λ (used : List ℕ). IsMeasured f (finish c.args.step.now) used values) c.as_slice.ensures (subst (λ (step : Step). IsMeasured f step c.as_slice.result.now values) c.finish-last.ensures.value c.measure-values.ensures) in
+    let vector = end_vector_is f c.args.self.now c.args.step.now values (g.met.S.FeatureSource.sound c.args.source.now) c.requires.source last measured in
+    let exact : c.end_value.result ≡ end_amount (measured_at values) (at_step f (finish c.args.step.now)) c.as_slice-parts.result.now = subst (λ (step : Step). c.end_value.result ≡ end_amount (measured_at values) (at_step f step) c.as_slice-parts.result.now) c.finish-last.ensures.value c.end_value.ensures.exact in
+    rule_added (λ parts. end_amount (measured_at values) (at_step f (finish c.args.step.now)) parts) c.args.self.now.rules c.as_slice-rules.result.now c.index-rules-i.result c.as_slice-parts.result.now amounts c.args.out.now c.loop-i.out _ c.loop-i.i c.end_value.result
+    c.as_slice-rules.ensures within c.index-rules-i.is c.as_slice-parts.ensures exact vector c.loop-i.invariant inside there c.add_at.ensures
 
 pub returns : goal.returns
 returns g c =

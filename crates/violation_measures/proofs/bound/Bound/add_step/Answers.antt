@@ -1,17 +1,16 @@
-use Rattle.std.proofs.Common.{rules, arith, ◌≡◌, ◌<◌, ◌≤◌, ◌^◌, ℕ, List, map, length, ap, sym, subst, ◌∙◌}
-use Rattle.std.specs.Prelude.{All, slice_index}
+use Rattle.std.proofs.Common.{rules, arith, ◌≡◌, ◌<◌, ◌≤◌, ℕ, List, length, sym, subst, ◌∙◌}
+use Rattle.std.specs.Prelude.{All}
 use Rattle.rule_language.specs.declared.limits.TheConstants.{MAX_PARTS, MAX_WEIGHT}
 use Rattle.violation_measures.specs.Measured.{measured_at, IsMeasured}
 use Rattle.violation_measures.specs.Resolved.{step_amount}
 use Rattle.violation_measures.specs.Sources.{IsKnown, at_step}
 use Rattle.violation_measures.specs.Vectors.{step_vector}
 use Rattle.violation_measures.specs.declared.bound.BoundPart.{BoundPart}
-use Rattle.violation_measures.specs.declared.bound.BoundRule.{BoundRule}
 use Rattle.violation_measures.specs.declared.bound.adding.TheConstants.{MAX_AMOUNT}
 use Rattle.violation_measures.specs.declared.used.TheConstants.{MAX_MEASURED}
-use Rattle.violation_measures.proofs.Added.{same_length, added_one, added_all, room_at}
+use Rattle.violation_measures.proofs.Added.{same_length, added_all, room_at}
 use Rattle.violation_measures.proofs.AmountLaws.{IsFew, each_few, within_vector, past_vector, steps_measurable, step_vector_is}
-use Rattle.violation_measures.proofs.VectorLaws.{step_up_to, amount_at, at_rule}
+use Rattle.violation_measures.proofs.VectorLaws.{step_up_to, rule_added, at_rule}
 use Rattle.violation_measures.proofs.bound.Bound.add_step.Goals as goal
 
 pub measure-values-requires-clause-known : goal.measure-values-requires-clause-known
@@ -59,17 +58,13 @@ loop-i-preserved g c =
     let f = g.S.FeatureSource.features c.args.source.now in
     let amounts = step_vector f c.args.self.now c.args.step.now in
     let values = c.measure-values.result in
-    let number : BoundRule → ℕ = λ rule. step_amount (measured_at values) (at_step f c.args.step.now) rule.parts in
     let within : c.loop-i.i < length c.as_slice-rules.result.now = search rules in
     let inside = within_vector f c.args.self.now c.as_slice-rules.result.now c.args.out.now c.loop-i.i c.requires.source c.as_slice-rules.ensures c.requires.width within in
-    let there : c.loop-i.i < length amounts = omega (arith, inside, c.requires.width, (step_up_to f c.args.self.now c.args.step.now c.requires.source).width) in
-    let counts : List BoundPart → ℕ = λ parts. step_amount (measured_at values) (at_step f c.args.step.now) parts in
-    let value : c.rule_value.result ≡ number c.index-rules-i.result = c.rule_value.ensures.exact ∙ ap counts c.as_slice-parts.ensures ∙ ap number (sym c.index-rules-i.is) in
-    let here = amount_at number c.args.self.now.rules c.as_slice-rules.result.now c.index-rules-i.result c.loop-i.i c.rule_value.result c.as_slice-rules.ensures within c.index-rules-i.is value in
+    let there = within_vector f c.args.self.now c.as_slice-rules.result.now amounts c.loop-i.i c.requires.source c.as_slice-rules.ensures (step_up_to f c.args.self.now c.args.step.now c.requires.source).width within in
     let measured : IsMeasured f c.args.step.now c.args.self.now.at_steps values = subst (λ (used : List ℕ). IsMeasured f c.args.step.now used values) c.as_slice.ensures c.measure-values.ensures in
-    let vector : map number c.args.self.now.rules ≡ amounts = step_vector_is f c.args.self.now c.args.step.now values (g.met.S.FeatureSource.sound c.args.source.now) c.requires.source c.requires.step measured in
-    let amount : c.rule_value.result ≡ slice_index amounts c.loop-i.i = here ∙ ap (λ (ns : List ℕ). slice_index ns c.loop-i.i) vector in
-    added_one c.loop-i.out c.args.out.now amounts _ c.loop-i.i c.rule_value.result c.loop-i.invariant inside there amount c.add_at.ensures
+    let vector = step_vector_is f c.args.self.now c.args.step.now values (g.met.S.FeatureSource.sound c.args.source.now) c.requires.source c.requires.step measured in
+    rule_added (λ parts. step_amount (measured_at values) (at_step f c.args.step.now) parts) c.args.self.now.rules c.as_slice-rules.result.now c.index-rules-i.result c.as_slice-parts.result.now amounts c.args.out.now c.loop-i.out _ c.loop-i.i c.rule_value.result
+    c.as_slice-rules.ensures within c.index-rules-i.is c.as_slice-parts.ensures c.rule_value.ensures.exact vector c.loop-i.invariant inside there c.add_at.ensures
 
 pub returns : goal.returns
 returns g c =
