@@ -42,6 +42,9 @@ added_all (suc i) [] ys e h = refl
 added_all (suc i) (x ∷ xs) [] e h = absurd (omega arith)
 added_all (suc i) (x ∷ xs) (y ∷ ys) e h = ap (λ rest. (x + y) ∷ rest) (added_all i xs ys (omega arith) (omega arith))
 
+pub all_added : (out old amounts : List ℕ) (i : ℕ) → out ≡ added i old amounts → length old ≡ length amounts → length old ≤ i → out ≡ sums old amounts
+all_added out old amounts i is e h = is ∙ added_all i old amounts e h
+
 -- one number more
 pub added_one : (out old amounts new : List ℕ) (i amount : ℕ) → out ≡ added i old amounts → i < length old → i < length amounts → amount ≡ slice_index amounts i
     → new ≡ slice_set out i (slice_index out i + amount) → new ≡ added (i + 1) old amounts

@@ -105,6 +105,7 @@ fn bound(alloc: Global, y: i32) -> Result<List<Point>, NoMemory>
 fn lanelets(alloc: Global) -> Result<List<Lanelet>, NoMemory>
     ensures few { IfOk result (λ lanelets. length lanelets ≡ 1) }
     ensures each { IfOk result (λ lanelets. All (IsLanelet (map (λ (l : Piece). l.id) lanelets)) lanelets) }
+    ensures different { IfOk result (λ lanelets. HaveDifferentIds (λ (l : Piece). l.id) lanelets) }
 {
     let mut lanelets = List::new(alloc);
     lanelets.push(Lanelet {
@@ -234,11 +235,11 @@ fn step(tick: u16, x: i32, y: i32, back: bool, maneuver: Option<u32>) -> Step
     }
 }
 
-fn ticks(alloc: Global, count: u16) -> Result<Vec<Step>, Fail>
-    ensures few { IfOk result (λ steps. length steps.items ≡ count) }
-    ensures each { IfOk result (λ steps. All IsStep steps.items) }
+fn ticks(alloc: Global, count: u16) -> Result<List<Step>, NoMemory>
+    ensures few { IfOk result (λ steps. length steps ≡ count) }
+    ensures each { IfOk result (All IsStep) }
 {
-    let mut steps = Vec::new(alloc);
+    let mut steps = List::new(alloc);
     for tick in 0..count {
         steps.push(step(tick, 0, 0, false, None))?;
     }
@@ -422,7 +423,7 @@ fn a_part_counts_its_value_cut_and_weighted(rt: HostRuntime) -> Result<(), Fail>
     let steps = ticks(alloc, 3)?;
     for (parts, expected) in rows {
         let book = format!(in alloc; "rule a\n{parts}")?;
-        let vector = violations(alloc, &Lamp, &book, &steps)?;
+        let vector = violations(alloc, &Lamp, &book, steps.as_slice())?;
         assert_eq!(rt; vector.as_slice(), [expected].as_slice(), "{parts}");
     }
     Ok(())
@@ -444,7 +445,7 @@ fn a_vector_has_a_number_for_each_rule(rt: HostRuntime) -> Result<(), Fail> {
     for (count, expected) in rows {
         let steps = ticks(alloc, count)?;
         assert_eq!(rt;
-            violations(alloc, &dials, book, &steps)?.as_slice(),
+            violations(alloc, &dials, book, steps.as_slice())?.as_slice(),
             expected.as_slice()
         );
     }
@@ -472,7 +473,7 @@ fn what_is_used_is_measured_once_a_step(rt: HostRuntime) -> Result<(), Fail> {
             readings: Cell::new(0),
         };
         let book = format!(in alloc; "rule a\n{parts}")?;
-        let vector = violations(alloc, &dials, &book, &steps)?;
+        let vector = violations(alloc, &dials, &book, steps.as_slice())?;
         assert_eq!(rt; vector.first().copied(), Some(expected), "{parts}");
         assert_eq!(rt; dials.readings.get(), readings, "{parts}");
     }
@@ -499,7 +500,7 @@ fn features_past_the_most_are_measured_where_they_stand(rt: HostRuntime) -> Resu
             readings: Cell::new(0),
         };
         let book = many_dials(alloc, count)?;
-        let vector = violations(alloc, &dials, &book, &ticks(alloc, 1)?)?;
+        let vector = violations(alloc, &dials, &book, ticks(alloc, 1)?.as_slice())?;
         let last = u64::from(count) - 1;
         let sum = vector.iter().fold(0, |sum: u64, n| sum.saturating_add(*n));
         assert_eq!(rt; sum, last * (last + 1));

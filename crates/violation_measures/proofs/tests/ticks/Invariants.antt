@@ -3,4 +3,4 @@ use Rattle.violation_measures.specs.Steps.{IsStep}
 use Rattle.violation_measures.proofs.tests.ticks.Given as goal
 
 abbrev pub invariant-loop-tick : goal.invariant-loop-tick
-invariant-loop-tick l = (length l.steps.items ≡ l.tick) × All IsStep l.steps.items
+invariant-loop-tick l = (length l.steps ≡ l.tick) × All IsStep l.steps

@@ -1,4 +1,4 @@
-use Rattle.std.proofs.Common.{rules, arith, ◌≡◌, ◌<◌, ◌≤◌, ℕ, List, length, sym, subst, ◌∙◌}
+use Rattle.std.proofs.Common.{rules, arith, ◌≡◌, ◌<◌, ◌≤◌, ℕ, List, length, sym, subst}
 use Rattle.std.specs.Prelude.{All}
 use Rattle.rule_language.specs.declared.limits.TheConstants.{MAX_PARTS, MAX_WEIGHT}
 use Rattle.violation_measures.specs.Measured.{measured_at, IsMeasured}
@@ -10,7 +10,7 @@ use Rattle.violation_measures.specs.declared.bound.BoundPart.{BoundPart}
 use Rattle.violation_measures.specs.declared.bound.adding.TheConstants.{MAX_AMOUNT}
 use Rattle.violation_measures.specs.declared.step.Step.{Step}
 use Rattle.violation_measures.specs.declared.used.TheConstants.{MAX_MEASURED}
-use Rattle.violation_measures.proofs.Added.{same_length, added_all, room_at}
+use Rattle.violation_measures.proofs.Added.{same_length, all_added, room_at}
 use Rattle.violation_measures.proofs.AmountLaws.{IsFew, each_few, within_vector, past_vector, end_measurable, end_vector_is}
 use Rattle.violation_measures.proofs.VectorLaws.{end_up_to, rule_added, at_rule}
 use Rattle.violation_measures.proofs.bound.Bound.add_end.Goals as goal
@@ -77,4 +77,4 @@ returns g c =
     let far : length c.as_slice-rules.result.now ≤ c.loop-i.i = search rules in
     let same : length c.args.out.now ≡ length amounts = omega (arith, c.requires.width, (end_up_to f c.args.self.now c.args.step.now c.requires.source).width) in
     let past = past_vector f c.args.self.now c.as_slice-rules.result.now c.args.out.now c.loop-i.i c.requires.source c.as_slice-rules.ensures c.requires.width far in
-    c.loop-i.invariant ∙ added_all c.loop-i.i c.args.out.now amounts same past
+    all_added c.loop-i.out c.args.out.now amounts c.loop-i.i c.loop-i.invariant same past
