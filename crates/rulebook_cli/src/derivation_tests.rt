@@ -76,8 +76,18 @@ fn accept_names_the_step_or_why_there_is_none(rt: HostRuntime) -> Result<(), Fai
             Status::Refused,
             b"refused child not-one-class a b\n",
         ),
-        (b"rule a\n", b"", Status::Refused, b"refused child no-rules\n"),
-        (b"rule\n", b"", Status::Refused, b"refused parent syntax 1\n"),
+        (
+            b"rule a\n",
+            b"",
+            Status::Refused,
+            b"refused child no-rules\n",
+        ),
+        (
+            b"rule\n",
+            b"",
+            Status::Refused,
+            b"refused parent syntax 1\n",
+        ),
     ];
     for (parent, child, status, text) in rows {
         let (ended, written) = run(rt.alloc(), "accept", parent, child)?;
@@ -109,11 +119,36 @@ fn derive_prints_the_book_or_the_first_fault(rt: HostRuntime) -> Result<(), Fail
             b"refused script strict-lost a b 0,1 1,0\n",
         ),
         (b"rule a\n", b"", Status::Done, b"rule a\n"),
-        (b"rule a\n", b"\xff", Status::Refused, b"refused script syntax 1\n"),
-        (b"rule a\n", b"\nrefine above a c\n", Status::Refused, b"refused script unknown-rule 2\n"),
-        (b"rule a\n", b"augment a 1 tick\n", Status::Refused, b"refused script duplicate-name 1\n"),
-        (b"rule a\n", b"augment b 0 tick\n", Status::Refused, b"refused script bad-weight 1\n"),
-        (b"rule a\n", b"\xff", Status::Refused, b"refused script syntax 1\n"),
+        (
+            b"rule a\n",
+            b"\xff",
+            Status::Refused,
+            b"refused script syntax 1\n",
+        ),
+        (
+            b"rule a\n",
+            b"\nrefine above a c\n",
+            Status::Refused,
+            b"refused script unknown-rule 2\n",
+        ),
+        (
+            b"rule a\n",
+            b"augment a 1 tick\n",
+            Status::Refused,
+            b"refused script duplicate-name 1\n",
+        ),
+        (
+            b"rule a\n",
+            b"augment b 0 tick\n",
+            Status::Refused,
+            b"refused script bad-weight 1\n",
+        ),
+        (
+            b"rule a\n",
+            b"\xff",
+            Status::Refused,
+            b"refused script syntax 1\n",
+        ),
         (b"", b"\xff", Status::Refused, b"refused parent no-rules\n"),
     ];
     for (parent, script, status, text) in rows {

@@ -6,12 +6,12 @@ use std::test::Fail;
 
 /// A scene as the three texts of its files, the scenario in pieces.
 #[derive(Clone, Copy)]
-struct Scene {
-    obstacle: &'static str,
-    start: &'static str,
-    goal: &'static str,
-    book: &'static str,
-    lattice: &'static str,
+struct Scene<'a> {
+    obstacle: &'a str,
+    start: &'a str,
+    goal: &'a str,
+    book: &'a str,
+    lattice: &'a str,
 }
 
 /// What a call leaves: its status, its text, and what stands under the certificate's name.
@@ -84,7 +84,7 @@ const SWERVE: &str =
 const TIE: &str =
     "horizon = 1\nlength = 1\nwidth = 1\ntolerance = 1000\nclass = [{name = 'c', heading = 0, speed = 11000}, {name = 'd', heading = 0, speed = 9000}]\nmaneuver = [{name = 'p', from = 'c', to = 'c', steps = [[10000, 0, 0, 11000, 0, 0]]}, {name = 'q', from = 'd', to = 'd', steps = [[10000, 0, 0, 9000, 0, 0]]}]\n";
 
-const PLAIN: Scene = Scene {
+const PLAIN: Scene<'static> = Scene {
     obstacle: "",
     start: FROM_0,
     goal: AT_1,
@@ -92,7 +92,7 @@ const PLAIN: Scene = Scene {
     lattice: P_Q,
 };
 
-const PARKED: Scene = Scene {
+const PARKED: Scene<'static> = Scene {
     obstacle: CAR,
     start: FROM_0,
     goal: ROUND_IT,
@@ -105,7 +105,7 @@ fn run(
     alloc: Global,
     command: &str,
     last: &str,
-    scene: Scene,
+    scene: Scene<'_>,
     certificate: &[u8],
     failing: Failing,
 ) -> Result<Left, Fail> {
@@ -130,7 +130,7 @@ fn run(
     store.put("c", certificate)?;
     store.fail_load(failing.load);
     store.fail_save(failing.save, failing.kept);
-    let mut out = MemorySink::with_room(alloc, 200_000)?;
+    let mut out = MemorySink::with_room(alloc, 400_000)?;
     let status = run_rulebook(alloc, &words, &mut store, &mut out);
     let certificate = store.get("c").ok_or("no certificate")?.to_vec(alloc)?;
     Ok(Left {
@@ -147,7 +147,7 @@ fn walk_adds_up_a_list(rt: HostRuntime) -> Result<(), Fail> {
     let missed =
         "<staticObstacle id='5'><shape><polygon><point><x>2.2501</x><y>0.9</y></point><point><x>4</x><y>0.9</y></point><point><x>4</x><y>2</y></point></polygon></shape><initialState><position><point><x>0</x><y>0</y></point></position></initialState></staticObstacle>";
     let five = "rules collision lane speed accel turn\nvector ";
-    let rows: [(Scene, &str, Status, &str, &str); 13] = [
+    let rows: [(Scene<'_>, &str, Status, &str, &str); 13] = [
         (
             PARKED,
             "sharp",
@@ -348,7 +348,7 @@ fn plan_prints_the_answer_and_check_accepts_it(rt: HostRuntime) -> Result<(), Fa
         ..PLAIN
     };
     let last = "rule a\npart a 1 maneuver(p)\nrule b\nfinal b 1 maneuver(q)\nfinal b 2 tick\n";
-    let rows: [(Scene, &str); 6] = [
+    let rows: [(Scene<'_>, &str); 6] = [
         (
             Scene {
                 goal: AT_0,
@@ -597,5 +597,120 @@ fn plan_saves_before_it_prints(rt: HostRuntime) -> Result<(), Fail> {
         assert_eq!(rt; left.text.as_slice(), text.as_bytes());
         assert_eq!(rt; left.certificate.as_slice(), certificate.as_bytes());
     }
+    Ok(())
+}
+
+// A goal at this tick, and a lattice with this horizon, in which q is a maneuver or isn't.
+fn far(alloc: Global, tick: u32, horizon: u32, has_q: bool) -> Result<(String, String), Fail> {
+    let goal = format!(in alloc;
+        "<time><intervalStart>{tick}</intervalStart><intervalEnd>{tick}</intervalEnd></time>"
+    )?;
+    let q = if has_q {
+        "[[maneuver]]\nname = 'q'\nfrom = 'c'\nto = 'c'\nsteps = [[10000, 0, 0, 10000, 0, 0]]\n"
+    } else {
+        ""
+    };
+    let lattice = format!(in alloc;
+        "horizon = {horizon}\nlength = 45000\nwidth = 18000\ntolerance = 0\n[[class]]\nname = 'c'\nheading = 0\nspeed = 10000\n[[maneuver]]\nname = 'p'\nfrom = 'c'\nto = 'c'\nsteps = [[10000, 0, 0, 10000, 0, 0]]\n{q}"
+    )?;
+    Ok((goal, lattice))
+}
+
+const MOST: &str =
+    "rule a\npart a 1000000 1000000000\npart a 1000000 1000000000\npart a 1000000 1000000000\npart a 1000000 1000000000\npart a 1000000 1000000000\npart a 1000000 1000000000\npart a 1000000 1000000000\npart a 1000000 1000000000\n";
+
+#[test]
+fn plan_adds_up_the_longest_lists(rt: HostRuntime) -> Result<(), Fail> {
+    let rows: [(u32, &str, &str); 4] = [
+        (200, MOST, "1608000000000000000"),
+        (1000, MOST, "8008000000000000000"),
+        (200, ONE, "0"),
+        (0, MOST, "8000000000000000"),
+    ];
+    for (ticks, book, least) in rows {
+        let (goal, lattice) = far(rt.alloc(), ticks, ticks, false)?;
+        let scene = Scene {
+            goal: goal.as_str(),
+            book,
+            lattice: lattice.as_str(),
+            ..PLAIN
+        };
+        let left = run(rt.alloc(), "plan", "c", scene, b"", NOTHING)?;
+        let mut text = format!(in rt.alloc(); "rules a\nfront 1\n{least} :")?.into_bytes();
+        for _ in 0..ticks {
+            text.extend_from_slice(b" p")?;
+        }
+        text.push(b'\n')?;
+        assert_eq!(rt; left.status, Status::Done);
+        assert_eq!(rt; left.text.as_slice(), text.as_slice());
+    }
+    let (goal, lattice) = far(rt.alloc(), 1, 1001, false)?;
+    let scene = Scene {
+        goal: goal.as_str(),
+        lattice: lattice.as_str(),
+        ..PLAIN
+    };
+    let left = run(rt.alloc(), "plan", "c", scene, b"old", NOTHING)?;
+    assert_eq!(rt;
+        left.text.as_slice(),
+        b"refused lattice bad-value horizon\n".as_slice()
+    );
+    assert_eq!(rt; left.certificate.as_slice(), b"old".as_slice());
+    Ok(())
+}
+
+// Of 2^200 lists, each as good as the other, one is told.
+#[test]
+fn plan_looks_at_few_of_many_lists(rt: HostRuntime) -> Result<(), Fail> {
+    let (goal, lattice) = far(rt.alloc(), 200, 200, true)?;
+    let scene = Scene {
+        goal: goal.as_str(),
+        book: ONE,
+        lattice: lattice.as_str(),
+        ..PLAIN
+    };
+    let left = run(rt.alloc(), "plan", "c", scene, b"", NOTHING)?;
+    let front = b"rules a\nfront 1\n0 :".as_slice();
+    assert_eq!(rt; left.status, Status::Done);
+    assert!(rt; left.text.as_slice().starts_with(front));
+    assert_eq!(rt; left.text.len(), front.len() + 401);
+    Ok(())
+}
+
+const DOUBLING: &str =
+    "if(tick - 1, 2, 1) * if(tick - 2, 2, 1) * if(tick - 3, 2, 1) * if(tick - 4, 2, 1) * if(tick - 5, 2, 1) * if(tick - 6, 2, 1) * if(tick - 7, 2, 1) * if(tick - 8, 2, 1) * if(tick - 9, 2, 1) * if(tick - 10, 2, 1) * if(tick - 11, 2, 1) * if(tick - 12, 2, 1) * if(tick - 13, 2, 1)";
+
+// p costs 2^0, 2^1, .. by a, and q as much by b: all 8,192 sums differ. With horizon 15 there are 57,343 undominated pairs.
+#[test]
+fn plan_prints_many_answers_or_says_too_many(rt: HostRuntime) -> Result<(), Fail> {
+    let book = format!(in rt.alloc();
+        "rule a\npart a 1 maneuver(p) * {DOUBLING}\nrule b\npart b 1 maneuver(q) * {DOUBLING}\n"
+    )?;
+    let (goal, lattice) = far(rt.alloc(), 13, 13, true)?;
+    let scene = Scene {
+        goal: goal.as_str(),
+        book: book.as_str(),
+        lattice: lattice.as_str(),
+        ..PLAIN
+    };
+    let left = run(rt.alloc(), "plan", "c", scene, b"", NOTHING)?;
+    assert_eq!(rt; left.status, Status::Done);
+    let front =
+        b"rules a b\nfront 8192\n0 8191 : q q q q q q q q q q q q q\n1 8190 : p q".as_slice();
+    assert!(rt; left.text.as_slice().starts_with(front));
+    assert!(rt;
+        left.text
+            .as_slice()
+            .ends_with(b"\n8191 0 : p p p p p p p p p p p p p\n")
+    );
+    let (_, longer) = far(rt.alloc(), 13, 15, true)?;
+    let scene = Scene {
+        lattice: longer.as_str(),
+        ..scene
+    };
+    let left = run(rt.alloc(), "plan", "c", scene, b"old", NOTHING)?;
+    assert_eq!(rt; left.status, Status::TooManyLabels);
+    assert_eq!(rt; left.text.as_slice(), b"too many labels\n".as_slice());
+    assert_eq!(rt; left.certificate.as_slice(), b"old".as_slice());
     Ok(())
 }

@@ -1,0 +1,75 @@
+"""Tests of tools/draw: python3 tools/test_draw.py. Expected values are worked out by hand from examples/round_the_car."""
+
+import json
+import re
+import subprocess
+import sys
+import tempfile
+import unittest
+from pathlib import Path
+
+TOP = Path(__file__).resolve().parent.parent
+SCENE = TOP / "examples" / "round_the_car" / "round_the_car"
+
+
+def draw(*words):
+    return subprocess.run([sys.executable, TOP / "tools" / "draw", *map(str, words)], capture_output=True, text=True)
+
+
+def drawn(plan):
+    done = draw(SCENE.with_suffix(".xml"), SCENE.with_suffix(".lattice"), plan)
+    assert done.returncode == 0, done.stderr
+    return done.stdout, json.loads(re.search(r'id="scene">(.*?)</script>', done.stdout, re.S).group(1))
+
+
+class Drawing(unittest.TestCase):
+    def test_the_page_says_what_the_plan_says(self):
+        text, scene = drawn(SCENE.with_suffix(".plan"))
+        self.assertEqual(scene["rules"], ["collision", "lane", "speed", "accel", "turn"])
+        self.assertEqual([(d["letter"], d["vector"], d["names"]) for d in scene["drives"]], [("A", [0, 4, 0, 0, 300000], ["sharp"]), ("B", [0, 4, 0, 1000, 100000], ["soft"])])
+        # both end 10 m ahead and 4 m to the left; the vehicle is 4.5 m by 1.8 m
+        self.assertEqual(scene["drives"][0]["path"], [[0, 0], [10, 4]])
+        self.assertEqual(scene["drives"][1]["bodies"][1], [[12.25, 3.1], [12.25, 4.9], [7.75, 4.9], [7.75, 3.1]])
+        self.assertEqual(scene["obstacles"][0]["places"][1], [[[12.25, -0.9], [12.25, 0.9], [7.75, 0.9], [7.75, -0.9]]])
+        self.assertEqual(scene["lanelets"][0]["corners"], [[-50, 2], [150, 2], [150, -2], [-50, -2]])
+        self.assertEqual(scene["goals"], [[[12, -6], [12, 6], [8, 6], [8, -6]]])
+        self.assertEqual(re.findall(r"<th class=differ>(\w+)", text), ["accel", "turn"])
+        self.assertNotIn("http://", text.replace("http://www.w3.org/2000/svg", ""))
+
+    def test_what_check_prints_is_drawn_too(self):
+        self.assertEqual(drawn(SCENE.with_suffix(".check"))[1], drawn(SCENE.with_suffix(".plan"))[1])
+
+    def test_no_answer_is_said(self):
+        with tempfile.TemporaryDirectory() as folder:
+            plan = Path(folder) / "plan"
+            plan.write_text("rules a\nnone\n")
+            text, scene = drawn(plan)
+        self.assertEqual(scene["drives"], [])
+        self.assertIn("No trajectory reaches the goal", text)
+
+    def test_a_moving_obstacle_is_where_it_is_at_each_tick(self):
+        car = '<dynamicObstacle id="7"><shape><circle><radius>1</radius></circle></shape><initialState><position><point><x>3</x><y>5</y></point></position><orientation><exact>0</exact></orientation><time><exact>0</exact></time></initialState></dynamicObstacle>'
+        with tempfile.TemporaryDirectory() as folder:
+            scenario = Path(folder) / "scene.xml"
+            scenario.write_text(SCENE.with_suffix(".xml").read_text().replace("<planningProblem", car + "<planningProblem"))
+            done = draw(scenario, SCENE.with_suffix(".lattice"), SCENE.with_suffix(".plan"))
+        scene = json.loads(re.search(r'id="scene">(.*?)</script>', done.stdout, re.S).group(1))
+        moving = scene["obstacles"][1]
+        self.assertEqual(moving["places"][0][0][0], [4, 5])
+        self.assertEqual(moving["places"][1], [])
+
+    def test_faults_are_told_in_one_line(self):
+        book = SCENE.with_suffix(".book")
+        for words, said in [
+            ((book, SCENE.with_suffix(".lattice"), SCENE.with_suffix(".plan")), "not well-formed"),
+            ((SCENE.with_suffix(".xml"), book, SCENE.with_suffix(".plan")), "round_the_car.book"),
+            ((SCENE.with_suffix(".xml"), SCENE.with_suffix(".lattice"), book), "not what plan or check prints"),
+            ((SCENE.with_suffix(".xml"), SCENE.with_suffix(".lattice"), "nowhere"), "nowhere"),
+        ]:
+            done = draw(*words)
+            self.assertEqual((done.returncode, done.stdout, done.stderr.count("\n")), (1, "", 1))
+            self.assertTrue(done.stderr.startswith("draw: ") and said in done.stderr, done.stderr)
+
+
+if __name__ == "__main__":
+    unittest.main()
