@@ -6,12 +6,12 @@ use std::test::Fail;
 
 /// A scene as the three texts of its files, the scenario in pieces.
 #[derive(Clone, Copy)]
-struct Scene<'a> {
-    obstacle: &'a str,
-    start: &'a str,
-    goal: &'a str,
-    book: &'a str,
-    lattice: &'a str,
+struct Scene {
+    obstacle: &'static str,
+    start: &'static str,
+    goal: &'static str,
+    book: &'static str,
+    lattice: &'static str,
 }
 
 /// What a call leaves: its status, its text, and what stands under the certificate's name.
@@ -84,7 +84,7 @@ const SWERVE: &str =
 const TIE: &str =
     "horizon = 1\nlength = 1\nwidth = 1\ntolerance = 1000\nclass = [{name = 'c', heading = 0, speed = 11000}, {name = 'd', heading = 0, speed = 9000}]\nmaneuver = [{name = 'p', from = 'c', to = 'c', steps = [[10000, 0, 0, 11000, 0, 0]]}, {name = 'q', from = 'd', to = 'd', steps = [[10000, 0, 0, 9000, 0, 0]]}]\n";
 
-const PLAIN: Scene<'static> = Scene {
+const PLAIN: Scene = Scene {
     obstacle: "",
     start: FROM_0,
     goal: AT_1,
@@ -92,7 +92,7 @@ const PLAIN: Scene<'static> = Scene {
     lattice: P_Q,
 };
 
-const PARKED: Scene<'static> = Scene {
+const PARKED: Scene = Scene {
     obstacle: CAR,
     start: FROM_0,
     goal: ROUND_IT,
@@ -100,12 +100,21 @@ const PARKED: Scene<'static> = Scene {
     lattice: SWERVE,
 };
 
-/// Runs a command over the files `s`, `b` and `l` of a scene, with a last word, and with a certificate held under `c`.
-fn run(
+// The document of a scene with one lanelet and one problem.
+fn document(alloc: Global, obstacle: &str, start: &str, goal: &str) -> Result<String, Fail> {
+    Ok(format!(in alloc;
+        "<commonRoad commonRoadVersion='2020a' timeStepSize='0.1'>\n{LANELET}{obstacle}<planningProblem id='9'><initialState><position><point><x>0</x><y>0</y></point></position><orientation><exact>0</exact></orientation>{start}</initialState><goalState>{goal}</goalState></planningProblem>\n</commonRoad>\n"
+    )?)
+}
+
+/// Runs a command over the files `s`, `b` and `l`, with a last word, and with a certificate held under `c`.
+fn run_over(
     alloc: Global,
     command: &str,
     last: &str,
-    scene: Scene<'_>,
+    scenario: &str,
+    book: &str,
+    lattice: &str,
     certificate: &[u8],
     failing: Failing,
 ) -> Result<Left, Fail> {
@@ -113,18 +122,8 @@ fn run(
     for word in [command, "s", "b", "l", last] {
         words.push(String::from_str(alloc, word)?)?;
     }
-    let Scene {
-        obstacle,
-        start,
-        goal,
-        book,
-        lattice,
-    } = scene;
-    let document = format!(in alloc;
-        "<commonRoad commonRoadVersion='2020a' timeStepSize='0.1'>\n{LANELET}{obstacle}<planningProblem id='9'><initialState><position><point><x>0</x><y>0</y></point></position><orientation><exact>0</exact></orientation>{start}</initialState><goalState>{goal}</goalState></planningProblem>\n</commonRoad>\n"
-    )?;
     let mut store = MemoryStore::new(alloc);
-    store.put("s", document.as_bytes())?;
+    store.put("s", scenario.as_bytes())?;
     store.put("b", book.as_bytes())?;
     store.put("l", lattice.as_bytes())?;
     store.put("c", certificate)?;
@@ -140,6 +139,28 @@ fn run(
     })
 }
 
+/// The same over the files of a scene.
+fn run(
+    alloc: Global,
+    command: &str,
+    last: &str,
+    scene: Scene,
+    certificate: &[u8],
+    failing: Failing,
+) -> Result<Left, Fail> {
+    let scenario = document(alloc, scene.obstacle, scene.start, scene.goal)?;
+    run_over(
+        alloc,
+        command,
+        last,
+        scenario.as_str(),
+        scene.book,
+        scene.lattice,
+        certificate,
+        failing,
+    )
+}
+
 #[test]
 fn walk_adds_up_a_list(rt: HostRuntime) -> Result<(), Fail> {
     let touched =
@@ -147,7 +168,7 @@ fn walk_adds_up_a_list(rt: HostRuntime) -> Result<(), Fail> {
     let missed =
         "<staticObstacle id='5'><shape><polygon><point><x>2.2501</x><y>0.9</y></point><point><x>4</x><y>0.9</y></point><point><x>4</x><y>2</y></point></polygon></shape><initialState><position><point><x>0</x><y>0</y></point></position></initialState></staticObstacle>";
     let five = "rules collision lane speed accel turn\nvector ";
-    let rows: [(Scene<'_>, &str, Status, &str, &str); 13] = [
+    let rows: [(Scene, &str, Status, &str, &str); 13] = [
         (
             PARKED,
             "sharp",
@@ -319,22 +340,21 @@ fn a_goal_is_met_where_it_is(rt: HostRuntime) -> Result<(), Fail> {
         ),
     ];
     for (more, ends) in rows {
-        let mut words = Vec::new(rt.alloc());
-        for word in ["walk", "s", "b", "l", "p"] {
-            words.push(String::from_str(rt.alloc(), word)?)?;
-        }
-        let document = format!(in rt.alloc();
-            "<commonRoad commonRoadVersion='2020a' timeStepSize='0.1'>\n{LANELET}<planningProblem id='9'><initialState><position><point><x>0</x><y>0</y></point></position><orientation><exact>0</exact></orientation>{FROM_0}</initialState><goalState>{AT_1}{more}</goalState></planningProblem>\n</commonRoad>\n"
+        let goal = format!(in rt.alloc(); "{AT_1}{more}")?;
+        let scenario = document(rt.alloc(), "", FROM_0, goal.as_str())?;
+        let left = run_over(
+            rt.alloc(),
+            "walk",
+            "p",
+            scenario.as_str(),
+            ONE,
+            P_Q,
+            b"",
+            NOTHING,
         )?;
-        let mut store = MemoryStore::new(rt.alloc());
-        store.put("s", document.as_bytes())?;
-        store.put("b", ONE.as_bytes())?;
-        store.put("l", P_Q.as_bytes())?;
-        let mut out = MemorySink::with_room(rt.alloc(), 100)?;
-        let status = run_rulebook(rt.alloc(), &words, &mut store, &mut out);
         let text = format!(in rt.alloc(); "rules a\nvector 0\n{ends}")?;
-        assert_eq!(rt; status, Status::Done);
-        assert_eq!(rt; out.written(), text.as_bytes());
+        assert_eq!(rt; left.status, Status::Done);
+        assert_eq!(rt; left.text.as_slice(), text.as_bytes());
     }
     Ok(())
 }
@@ -348,7 +368,7 @@ fn plan_prints_the_answer_and_check_accepts_it(rt: HostRuntime) -> Result<(), Fa
         ..PLAIN
     };
     let last = "rule a\npart a 1 maneuver(p)\nrule b\nfinal b 1 maneuver(q)\nfinal b 2 tick\n";
-    let rows: [(Scene<'_>, &str); 6] = [
+    let rows: [(Scene, &str); 6] = [
         (
             Scene {
                 goal: AT_0,
@@ -600,20 +620,38 @@ fn plan_saves_before_it_prints(rt: HostRuntime) -> Result<(), Fail> {
     Ok(())
 }
 
-// A goal at this tick, and a lattice with this horizon, in which q is a maneuver or isn't.
-fn far(alloc: Global, tick: u32, horizon: u32, has_q: bool) -> Result<(String, String), Fail> {
+// A document with a goal at this tick.
+fn due_at(alloc: Global, tick: u32) -> Result<String, Fail> {
     let goal = format!(in alloc;
         "<time><intervalStart>{tick}</intervalStart><intervalEnd>{tick}</intervalEnd></time>"
     )?;
-    let q = if has_q {
-        "[[maneuver]]\nname = 'q'\nfrom = 'c'\nto = 'c'\nsteps = [[10000, 0, 0, 10000, 0, 0]]\n"
-    } else {
-        ""
-    };
-    let lattice = format!(in alloc;
-        "horizon = {horizon}\nlength = 45000\nwidth = 18000\ntolerance = 0\n[[class]]\nname = 'c'\nheading = 0\nspeed = 10000\n[[maneuver]]\nname = 'p'\nfrom = 'c'\nto = 'c'\nsteps = [[10000, 0, 0, 10000, 0, 0]]\n{q}"
-    )?;
-    Ok((goal, lattice))
+    document(alloc, "", FROM_0, goal.as_str())
+}
+
+const AND_Q: &str =
+    "[[maneuver]]\nname = 'q'\nfrom = 'c'\nto = 'c'\nsteps = [[10000, 0, 0, 10000, 0, 0]]\n";
+
+// A lattice with this horizon and p, and perhaps more maneuvers.
+fn lasting(alloc: Global, horizon: u32, more: &str) -> Result<String, Fail> {
+    Ok(format!(in alloc;
+        "horizon = {horizon}\nlength = 45000\nwidth = 18000\ntolerance = 0\n[[class]]\nname = 'c'\nheading = 0\nspeed = 10000\n[[maneuver]]\nname = 'p'\nfrom = 'c'\nto = 'c'\nsteps = [[10000, 0, 0, 10000, 0, 0]]\n{more}"
+    )?)
+}
+
+// What `plan` leaves of a book over these.
+fn planned(alloc: Global, tick: u32, book: &str, horizon: u32, more: &str) -> Result<Left, Fail> {
+    let scenario = due_at(alloc, tick)?;
+    let lattice = lasting(alloc, horizon, more)?;
+    run_over(
+        alloc,
+        "plan",
+        "c",
+        scenario.as_str(),
+        book,
+        lattice.as_str(),
+        b"old",
+        NOTHING,
+    )
 }
 
 const MOST: &str =
@@ -628,14 +666,7 @@ fn plan_adds_up_the_longest_lists(rt: HostRuntime) -> Result<(), Fail> {
         (0, MOST, "8000000000000000"),
     ];
     for (ticks, book, least) in rows {
-        let (goal, lattice) = far(rt.alloc(), ticks, ticks, false)?;
-        let scene = Scene {
-            goal: goal.as_str(),
-            book,
-            lattice: lattice.as_str(),
-            ..PLAIN
-        };
-        let left = run(rt.alloc(), "plan", "c", scene, b"", NOTHING)?;
+        let left = planned(rt.alloc(), ticks, book, ticks, "")?;
         let mut text = format!(in rt.alloc(); "rules a\nfront 1\n{least} :")?.into_bytes();
         for _ in 0..ticks {
             text.extend_from_slice(b" p")?;
@@ -644,13 +675,7 @@ fn plan_adds_up_the_longest_lists(rt: HostRuntime) -> Result<(), Fail> {
         assert_eq!(rt; left.status, Status::Done);
         assert_eq!(rt; left.text.as_slice(), text.as_slice());
     }
-    let (goal, lattice) = far(rt.alloc(), 1, 1001, false)?;
-    let scene = Scene {
-        goal: goal.as_str(),
-        lattice: lattice.as_str(),
-        ..PLAIN
-    };
-    let left = run(rt.alloc(), "plan", "c", scene, b"old", NOTHING)?;
+    let left = planned(rt.alloc(), 1, ONE, 1001, "")?;
     assert_eq!(rt;
         left.text.as_slice(),
         b"refused lattice bad-value horizon\n".as_slice()
@@ -662,14 +687,7 @@ fn plan_adds_up_the_longest_lists(rt: HostRuntime) -> Result<(), Fail> {
 // Of 2^200 lists, each as good as the other, one is told.
 #[test]
 fn plan_looks_at_few_of_many_lists(rt: HostRuntime) -> Result<(), Fail> {
-    let (goal, lattice) = far(rt.alloc(), 200, 200, true)?;
-    let scene = Scene {
-        goal: goal.as_str(),
-        book: ONE,
-        lattice: lattice.as_str(),
-        ..PLAIN
-    };
-    let left = run(rt.alloc(), "plan", "c", scene, b"", NOTHING)?;
+    let left = planned(rt.alloc(), 200, ONE, 200, AND_Q)?;
     let front = b"rules a\nfront 1\n0 :".as_slice();
     assert_eq!(rt; left.status, Status::Done);
     assert!(rt; left.text.as_slice().starts_with(front));
@@ -686,29 +704,17 @@ fn plan_prints_many_answers_or_says_too_many(rt: HostRuntime) -> Result<(), Fail
     let book = format!(in rt.alloc();
         "rule a\npart a 1 maneuver(p) * {DOUBLING}\nrule b\npart b 1 maneuver(q) * {DOUBLING}\n"
     )?;
-    let (goal, lattice) = far(rt.alloc(), 13, 13, true)?;
-    let scene = Scene {
-        goal: goal.as_str(),
-        book: book.as_str(),
-        lattice: lattice.as_str(),
-        ..PLAIN
-    };
-    let left = run(rt.alloc(), "plan", "c", scene, b"", NOTHING)?;
-    assert_eq!(rt; left.status, Status::Done);
+    let left = planned(rt.alloc(), 13, book.as_str(), 13, AND_Q)?;
     let front =
         b"rules a b\nfront 8192\n0 8191 : q q q q q q q q q q q q q\n1 8190 : p q".as_slice();
+    assert_eq!(rt; left.status, Status::Done);
     assert!(rt; left.text.as_slice().starts_with(front));
     assert!(rt;
         left.text
             .as_slice()
             .ends_with(b"\n8191 0 : p p p p p p p p p p p p p\n")
     );
-    let (_, longer) = far(rt.alloc(), 13, 15, true)?;
-    let scene = Scene {
-        lattice: longer.as_str(),
-        ..scene
-    };
-    let left = run(rt.alloc(), "plan", "c", scene, b"old", NOTHING)?;
+    let left = planned(rt.alloc(), 13, book.as_str(), 15, AND_Q)?;
     assert_eq!(rt; left.status, Status::TooManyLabels);
     assert_eq!(rt; left.text.as_slice(), b"too many labels\n".as_slice());
     assert_eq!(rt; left.certificate.as_slice(), b"old".as_slice());
