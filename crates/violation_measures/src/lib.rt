@@ -8,17 +8,20 @@ mod amount;
 mod bind_fault;
 mod bound;
 mod feature;
+mod formula;
 mod interval;
 mod laws;
+mod measure;
 mod range;
+mod resolve;
 mod scene_source;
 mod source;
 mod step;
 #[cfg(test)]
 mod tests;
+mod used;
 mod value;
 
-pub use amount::{end_value, rule_value};
 pub use bind_fault::BindFault;
 pub use bound::{Bound, MAX_AMOUNT, MAX_STEPS, bind};
 pub use feature::Feature;
