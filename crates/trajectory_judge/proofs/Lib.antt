@@ -1,0 +1,5 @@
+mod CsvRows
+mod Columns
+mod Runs
+mod ReadOnce
+mod RowLoop
