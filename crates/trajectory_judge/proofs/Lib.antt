@@ -3,3 +3,8 @@ mod Columns
 mod Runs
 mod ReadOnce
 mod RowLoop
+mod Peeled
+mod Rounds
+mod JudgedRuns
+mod Chains
+mod Measuring

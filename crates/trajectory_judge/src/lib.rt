@@ -6,11 +6,16 @@
 
 mod fault;
 mod fields;
+mod judged;
+mod judging;
+mod layers;
 mod limits;
 mod records;
 mod rows;
 
 pub use fault::RecordFault;
+pub use judged::Judged;
+pub use judging::{Judgement, judge};
 pub use limits::{
     MAX_RECORDED_COORDINATE, MAX_RECORDED_HEADING, MAX_RECORDED_SPEED, MAX_RECORDED_STEPS,
     MAX_RECORDED_TICK, MAX_RECORDED_TURN, MAX_RECORDINGS,
