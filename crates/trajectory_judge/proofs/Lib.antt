@@ -1,0 +1,10 @@
+mod CsvRows
+mod Columns
+mod Runs
+mod ReadOnce
+mod RowLoop
+mod Peeled
+mod Rounds
+mod JudgedRuns
+mod Chains
+mod Measuring

@@ -1,0 +1,7 @@
+pub mod Faults
+pub mod Rows
+pub mod Fields
+pub mod Records
+pub mod Layers
+pub mod Peeling
+pub mod Judgements
