@@ -39,6 +39,7 @@ role_text role.Certificate = codes "certificate"
 role_text role.Parent = codes "parent"
 role_text role.Child = codes "child"
 role_text role.Script = codes "script"
+role_text role.Records = codes "records"
 
 -- `refused ROLE FAULT`
 abbrev pub refused_text : Role → List ℕ → List ℕ

@@ -41,6 +41,7 @@ pub enum Role {
     /// The book that is a step from another.
     Child,
     Script,
+    Records,
 }
 
 /// What is due to a command whose work can't be done.
@@ -115,6 +116,7 @@ impl Role {
             Role::Parent => "parent",
             Role::Child => "child",
             Role::Script => "script",
+            Role::Records => "records",
         }
     }
 }

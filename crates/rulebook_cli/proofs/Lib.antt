@@ -10,6 +10,8 @@ pub mod Shown
 pub mod Ways
 pub mod WalkTexts
 pub mod Derivings
+pub mod Judgings
+pub mod Recorded
 pub mod OneOutcome
 pub mod Accepted
 pub mod Headlines

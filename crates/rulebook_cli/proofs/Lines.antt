@@ -4,7 +4,10 @@ use Rattle.std.specs.Prelude.{All}
 use Rattle.std.proofs.lemmas.List.Elements.{All-tail}
 use Rattle.preorder.specs.declared.row.Row.{Row}
 use Rattle.std.proofs.lemmas.List.{append-nil, take_all}
-use Rattle.rulebook_cli.specs.Compare.{AreLines, AddsLines, pairs}
+use Rattle.rule_language.specs.declared.book.Book.{Book}
+use Rattle.rulebook_order.specs.NoWorseUnder.{IsAbove, IsVerdictUnder}
+use Rattle.rulebook_order.proofs.Unique.{IsVerdict-unique}
+use Rattle.rulebook_cli.specs.Compare.{AreLines, AddsLines, IsPairLine, pair_line, pairs}
 
 module _ {X : Type 0} (IsLine : X → List ℕ → Type 0) where
   pub lines_join : (xs ys : List X) (s t : List ℕ) → AreLines IsLine xs s → AreLines IsLine ys t → AreLines IsLine (xs ++ ys) (s ++ t)
@@ -71,3 +74,7 @@ split_first [] d x h e = absurd (omega arith)
 split_first (y ∷ xs) d x h e =
     let rest : take (length (y ∷ xs) - 1) (drop 1 (y ∷ xs)) ≡ xs = take_all (length (y ∷ xs) - 1) xs (omega arith) in
     ap (λ z. z ∷ xs) (sym e) ∙ ap (λ zs. x ∷ zs) (sym rest)
+
+-- a pair of rows has one line
+pub one_pair_line : (book : Book) (pair : Row × Row) (s t : List ℕ) → IsPairLine (IsVerdictUnder book.statements (length book.rules)) book.rules pair s → IsPairLine (IsVerdictUnder book.statements (length book.rules)) book.rules pair t → s ≡ t
+one_pair_line book pair s t h k = h.2 ∙ ap (pair_line book.rules pair) (IsVerdict-unique (length book.rules) (IsAbove book.statements) pair.0.values pair.1.values h.0 k.0 h.1 k.1) ∙ sym k.2

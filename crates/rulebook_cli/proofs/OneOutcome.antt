@@ -10,7 +10,7 @@ use Rattle.rulebook_order.proofs.Unique.{IsFront-unique, IsVerdict-unique}
 use Rattle.command_outcome.specs.Outcome.{Outcome}
 use Rattle.command_outcome.specs.Tasks.{IsDueTo, EndAlike, KeepsFiles}
 use Rattle.command_outcome.proofs.DueOutcomes.{alike, end_alike, keeps, same_outcome}
-use Rattle.rulebook_cli.specs.Words.{Request, pick, compare, show, walk, accept, derive, plan, check, reading}
+use Rattle.rulebook_cli.specs.Words.{Request, pick, compare, show, walk, accept, derive, judge, plan, check, reading}
 use Rattle.rulebook_cli.specs.Asked.{task_by, task_of}
 use Rattle.rulebook_cli.specs.Pick.{PickMakes, IsPickText, kept_lines}
 use Rattle.rulebook_cli.specs.Compare.{CompareMakes, IsCompareText, IsPairLine, pair_line, pairs}
@@ -28,16 +28,14 @@ use Rattle.rulebook_cli.specs.Check.{CheckMakes, IsAccepted, IsRejected, accepte
 use Rattle.rulebook_cli.specs.Plan.{PlanMakes, plan_task}
 use Rattle.rulebook_cli.proofs.Ascending.{one_list}
 use Rattle.rulebook_cli.proofs.Derivings.{accept_keeps, derive_keeps, one_accept, one_derive}
-use Rattle.rulebook_cli.proofs.Lines.{lines_unique}
+use Rattle.rulebook_cli.proofs.Recorded.{one_judge}
+use Rattle.rulebook_cli.proofs.Lines.{lines_unique, one_pair_line}
 
 one_pick_text : (book : Book) (rows : List Row) (s t : List ℕ) → IsPickText book rows s → IsPickText book rows t → s ≡ t
 one_pick_text book rows s t h k = h.2 ∙ ap (kept_lines rows) (IsFront-unique (NoWorseUnder book.statements (length book.rules)) (vectors_of rows) h.0 k.0 h.1 k.1) ∙ sym k.2
 
 one_pick : (files : Files) (x : Book × Table) (o p : Outcome) → PickMakes files x o → PickMakes files x p → o ≡ p
 one_pick files x o p h k = same_outcome o p (h.done ∙ sym k.done) (one_pick_text x.0 x.1.rows o.text p.text h.says k.says) (h.stays ∙ sym k.stays)
-
-one_pair_line : (book : Book) (pair : Row × Row) (s t : List ℕ) → IsPairLine (IsVerdictUnder book.statements (length book.rules)) book.rules pair s → IsPairLine (IsVerdictUnder book.statements (length book.rules)) book.rules pair t → s ≡ t
-one_pair_line book pair s t h k = h.2 ∙ ap (pair_line book.rules pair) (IsVerdict-unique (length book.rules) (IsAbove book.statements) pair.0.values pair.1.values h.0 k.0 h.1 k.1) ∙ sym k.2
 
 one_compare_text : (book : Book) (rows : List Row) (s t : List ℕ) → IsCompareText book rows s → IsCompareText book rows t → s ≡ t
 one_compare_text book rows = lines_unique (IsPairLine (IsVerdictUnder book.statements (length book.rules)) book.rules) (one_pair_line book) (pairs rows)
@@ -112,6 +110,7 @@ once_to (compare book table) files o p one = alike (λ o p. o ≡ p) (λ o. refl
 once_to (walk scenario book lattice list) files o p one = alike (λ o p. o ≡ p) (λ o. refl) (task_of (walk scenario book lattice list)) files (one_walk files) o p
 once_to (accept parent child) files o p one = alike (λ o p. o ≡ p) (λ o. refl) (task_of (accept parent child)) files (one_accept files) o p
 once_to (derive parent script) files o p one = alike (λ o p. o ≡ p) (λ o. refl) (task_of (derive parent script)) files (one_derive files) o p
+once_to (judge scenario book lattice records) files o p one = alike (λ o p. o ≡ p) (λ o. refl) (task_of (judge scenario book lattice records)) files (one_judge files) o p
 once_to (plan scenario book lattice name) files o p one = absurd cc
 once_to (check scenario book lattice name) files o p one = alike (λ o p. o ≡ p) (λ o. refl) (task_of (check scenario book lattice name)) files (one_check files) o p
 once_to (show scenario) files o p one = alike (λ o p. o ≡ p) (λ o. refl) (task_of (show scenario)) files (λ x o p h k. h ∙ sym k) o p
@@ -122,6 +121,7 @@ ends_to (compare book table) files o p h k = end_alike o p (once_to (compare boo
 ends_to (walk scenario book lattice list) files o p h k = end_alike o p (once_to (walk scenario book lattice list) files o p refl h k)
 ends_to (accept parent child) files o p h k = end_alike o p (once_to (accept parent child) files o p refl h k)
 ends_to (derive parent script) files o p h k = end_alike o p (once_to (derive parent script) files o p refl h k)
+ends_to (judge scenario book lattice records) files o p h k = end_alike o p (once_to (judge scenario book lattice records) files o p refl h k)
 ends_to (plan scenario book lattice name) files o p h k = alike EndAlike same_end (task_of (plan scenario book lattice name)) files (plan_ends name files) o p h k
 ends_to (check scenario book lattice name) files o p h k = end_alike o p (once_to (check scenario book lattice name) files o p refl h k)
 ends_to (show scenario) files o p h k = end_alike o p (once_to (show scenario) files o p refl h k)
@@ -132,6 +132,7 @@ keeps_to (compare book table) files = keeps (task_of (compare book table)) files
 keeps_to (walk scenario book lattice list) files = keeps (task_of (walk scenario book lattice list)) files (λ x o h. inl h.stays)
 keeps_to (accept parent child) files = keeps (task_of (accept parent child)) files (accept_keeps parent child files)
 keeps_to (derive parent script) files = keeps (task_of (derive parent script)) files (derive_keeps parent script files)
+keeps_to (judge scenario book lattice records) files = keeps (task_of (judge scenario book lattice records)) files (λ x o h. inl h.stays)
 keeps_to (plan scenario book lattice name) files = keeps (task_of (plan scenario book lattice name)) files (plan_keeps scenario book lattice name files)
 keeps_to (check scenario book lattice name) files = keeps (task_of (check scenario book lattice name)) files (check_keeps scenario book lattice name files)
 keeps_to (show scenario) files = keeps (task_of (show scenario)) files (λ x o h. inl (ap (λ (q : Outcome). q.files) h))

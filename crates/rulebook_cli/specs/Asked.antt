@@ -1,13 +1,14 @@
 -- What words ask for, as a task. This project's own.
 use Rattle.std.specs.Prelude.{ℕ, List, Option, None, Some}
 use Rattle.command_outcome.specs.Tasks.{Task, usage}
-use Rattle.rulebook_cli.specs.Words.{Request, pick, compare, show, walk, accept, derive, plan, check, reading}
+use Rattle.rulebook_cli.specs.Words.{Request, pick, compare, show, walk, accept, derive, judge, plan, check, reading}
 use Rattle.rulebook_cli.specs.Pick.{pick_task}
 use Rattle.rulebook_cli.specs.Compare.{compare_task}
 use Rattle.rulebook_cli.specs.Show.{show_task}
 use Rattle.rulebook_cli.specs.Walk.{walk_task}
 use Rattle.rulebook_cli.specs.Accept.{accept_task}
 use Rattle.rulebook_cli.specs.Derive.{derive_task}
+use Rattle.rulebook_cli.specs.Judge.{judge_task}
 use Rattle.rulebook_cli.specs.Plan.{plan_task}
 use Rattle.rulebook_cli.specs.Check.{check_task}
 
@@ -18,6 +19,7 @@ task_of (show scenario) = show_task scenario
 task_of (walk scenario book lattice list) = walk_task scenario book lattice list
 task_of (accept parent child) = accept_task parent child
 task_of (derive parent script) = derive_task parent script
+task_of (judge scenario book lattice records) = judge_task scenario book lattice records
 task_of (plan scenario book lattice certificate) = plan_task scenario book lattice certificate
 task_of (check scenario book lattice certificate) = check_task scenario book lattice certificate
 

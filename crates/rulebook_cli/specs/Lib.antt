@@ -18,6 +18,9 @@ pub mod Planning
 pub mod DeriveFaults
 pub mod Accept
 pub mod Derive
+pub mod RecordInput
+pub mod Judge
+pub mod Judgeable
 pub mod Asked
 pub mod Headline
 pub mod ExitStatus

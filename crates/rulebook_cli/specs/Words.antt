@@ -6,7 +6,7 @@ use Rattle.std.specs.String.{string_bytes}
 use Rattle.std.specs.List.{list_all}
 use Rattle.std.specs.Str.{bytes_eq}
 use Rattle.rulebook_cli.specs.declared.words.Command.{Command}
-use Rattle.rulebook_cli.specs.declared.words.Command.TheVariants.{Pick, Compare, Show, Walk, Accept, Derive, Plan, Check}
+use Rattle.rulebook_cli.specs.declared.words.Command.TheVariants.{Pick, Compare, Show, Walk, Accept, Derive, Judge, Plan, Check}
 
 -- a command with the names of its files
 pub data Request : Type 0 where
@@ -16,6 +16,7 @@ pub data Request : Type 0 where
   walk : (scenario book lattice list : List ℕ) → Request
   accept : (parent child : List ℕ) → Request
   derive : (parent script : List ℕ) → Request
+  judge : (scenario book lattice records : List ℕ) → Request
   plan : (scenario book lattice certificate : List ℕ) → Request
   check : (scenario book lattice certificate : List ℕ) → Request
 
@@ -52,6 +53,7 @@ is_another a b c d = not (bytes_eq d a) && (not (bytes_eq d b) && not (bytes_eq 
 abbrev pub four_words : List ℕ → List ℕ → List ℕ → List ℕ → List ℕ → Option Request
 four_words command a b c d =
     if bytes_eq command (codes "walk") then Some (walk a b c d)
+    else if bytes_eq command (codes "judge") then Some (judge a b c d)
     else if bytes_eq command (codes "plan") && is_another a b c d then Some (plan a b c d)
     else if bytes_eq command (codes "check") && is_another a b c d then Some (check a b c d)
     else None
@@ -80,5 +82,6 @@ request_of (Show scenario) = show scenario.now
 request_of (Walk scenario book lattice list) = walk scenario.now book.now lattice.now list.now
 request_of (Accept parent child) = accept parent.now child.now
 request_of (Derive parent script) = derive parent.now script.now
+request_of (Judge scenario book lattice records) = judge scenario.now book.now lattice.now records.now
 request_of (Plan scenario book lattice certificate) = plan scenario.now book.now lattice.now certificate.now
 request_of (Check scenario book lattice certificate) = check scenario.now book.now lattice.now certificate.now

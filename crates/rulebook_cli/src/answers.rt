@@ -26,7 +26,8 @@ pub fn ascending<'a>(
     Ok(sorted)
 }
 
-fn push_cells(alloc: Global, out: &mut Vec<u8>, numbers: &[u64]) -> Result<(), AllocError>
+/// Appends numbers, each behind a space.
+pub fn push_cells(alloc: Global, out: &mut Vec<u8>, numbers: &[u64]) -> Result<(), AllocError>
     ensures { OnOk result (out.new.items ≡ out.old.items ++ cells numbers.now) }
 {
     for number in numbers {

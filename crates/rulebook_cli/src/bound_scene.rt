@@ -46,12 +46,12 @@ pub fn first_problem(scenario: &Scenario) -> &Problem
     &scenario.problems.as_slice()[0]
 }
 
-// What surrounds the vehicle, and the names of its maneuvers.
+/// What surrounds the vehicle, and the names of its maneuvers.
 #[derive(Drop)]
-struct Surroundings {
-    network: Network,
-    traffic: Traffic,
-    names: List<Name>,
+pub struct Surroundings {
+    pub network: Network,
+    pub traffic: Traffic,
+    pub names: List<Name>,
 }
 
 fn network_of(alloc: Global, scenario: &Scenario) -> Result<Network, NoMemory>
@@ -64,7 +64,8 @@ fn network_of(alloc: Global, scenario: &Scenario) -> Result<Network, NoMemory>
     }
 }
 
-fn surroundings_of(alloc: Global, files: &SceneFiles) -> Result<Surroundings, NoMemory>
+/// What surrounds the vehicle in these files.
+pub fn surroundings_of(alloc: Global, files: &SceneFiles) -> Result<Surroundings, NoMemory>
     requires { AreSceneFiles files.now }
     ensures network { IfOk result (λ around. around.network ≡ lanes_of files.now.scenario) }
     ensures traffic { IfOk result (λ around. IsTrafficOf files.now.scenario.obstacles around.traffic) }
@@ -95,8 +96,8 @@ fn refuse_binding(alloc: Global, rules: &[Rule], fault: BindFault) -> Stop
     }
 }
 
-// The book, bound to the features of the scene.
-fn test_binding(alloc: Global, files: &SceneFiles, source: &SceneSource<'_>) -> Result<Bound, Stop>
+/// The book, bound to the features of the scene.
+pub fn test_binding(alloc: Global, files: &SceneFiles, source: &SceneSource<'_>) -> Result<Bound, Stop>
     requires files { AreSceneFiles files.now }
     requires source { features_of (source_scene source.now) ≡ features files.now }
     ensures tests { Tests (λ _. tt) role.Book (binding_told files.now) result }

@@ -25,7 +25,7 @@ fn push_rule(out: &mut Vec<u8>, rules: &[Rule], rule: usize) -> Result<(), Alloc
 }
 
 /// Appends a verdict with the names of its rules.
-fn push_verdict(out: &mut Vec<u8>, rules: &[Rule], verdict: Verdict) -> Result<(), AllocError>
+pub fn push_verdict(out: &mut Vec<u8>, rules: &[Rule], verdict: Verdict) -> Result<(), AllocError>
     requires { AreNamed (length rules.now) verdict }
     ensures { OnOk result (out.new.items ≡ out.old.items ++ verdict_text rules.now verdict) }
 {

@@ -19,6 +19,7 @@ mod inputs;
 mod laws;
 mod picking;
 mod planning;
+mod recordings;
 mod scenario_input;
 mod scene_files;
 #[cfg(test)]

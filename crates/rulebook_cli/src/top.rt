@@ -11,6 +11,7 @@ use crate::comparing::compare_rows;
 use crate::derivations::{accept_child, derive};
 use crate::picking::pick;
 use crate::planning::plan;
+use crate::recordings::judge_records;
 use crate::showing::show;
 use crate::walking::walk;
 use crate::words::{Command, read_words};
@@ -35,6 +36,12 @@ fn serve<S: Store>(alloc: Global, store: &mut S, command: Command<'_>) -> Result
         } => walk(alloc, store, scenario, book, lattice, list),
         Command::Accept { parent, child } => accept_child(alloc, store, parent, child),
         Command::Derive { parent, script } => derive(alloc, store, parent, script),
+        Command::Judge {
+            scenario,
+            book,
+            lattice,
+            records,
+        } => judge_records(alloc, store, scenario, book, lattice, records),
         Command::Plan {
             scenario,
             book,

@@ -32,6 +32,12 @@ pub enum Command<'a> {
         parent: &'a str,
         script: &'a str,
     },
+    Judge {
+        scenario: &'a str,
+        book: &'a str,
+        lattice: &'a str,
+        records: &'a str,
+    },
     Plan {
         scenario: &'a str,
         book: &'a str,
@@ -137,6 +143,12 @@ fn four_words<'a>(
             book: b,
             lattice: c,
             list: d,
+        }),
+        "judge" => Some(Command::Judge {
+            scenario: a,
+            book: b,
+            lattice: c,
+            records: d,
         }),
         "plan" if is_another(a, b, c, d) => Some(Command::Plan {
             scenario: a,
