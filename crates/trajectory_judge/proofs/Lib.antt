@@ -8,3 +8,4 @@ mod Rounds
 mod JudgedRuns
 mod Chains
 mod Measuring
+mod WhatRowsSay

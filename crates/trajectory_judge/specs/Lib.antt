@@ -5,3 +5,4 @@ pub mod Records
 pub mod Layers
 pub mod Peeling
 pub mod Judgements
+pub mod Driven

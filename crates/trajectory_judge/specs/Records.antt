@@ -1,6 +1,6 @@
 -- The recordings of a file, or its first fault. Rows that follow one another under one name are a recording.
 -- This project's own.
-use Rattle.std.specs.Prelude.{◌≡◌, ◌≢◌, ℕ, ◌+◌, ◌-◌, ◌<◌, ◌≤◌, ◌++◌, Bool, false, not, List, [], ◌∷◌, length, All, Option, Some, None, IfSome, Result, Ok, Err, ◌==◌, nat_le, if◌then◌else◌, IsTrue, slice_get, slice_index_or, slice_set, unsigned_abs}
+use Rattle.std.specs.Prelude.{◌≡◌, ◌≢◌, ℕ, ◌+◌, ◌-◌, ◌<◌, ◌≤◌, ◌++◌, Bool, false, not, List, [], ◌∷◌, length, map, All, Option, Some, None, IfSome, Result, Ok, Err, ◌==◌, nat_le, if◌then◌else◌, IsTrue, slice_get, slice_index_or, slice_set, unsigned_abs}
 use Rattle.std.specs.Str.{bytes_eq}
 use Rattle.preorder.specs.Name.{is_name}
 use Rattle.reading.specs.Reading.{◌>>=◌}
@@ -113,3 +113,20 @@ pub record AreRecords (maneuvers : ℕ) (records : Records) : Type 0 where
 -- the next row, of this number, has not nine fields
 abbrev pub IsCut : Rows → ℕ → RecordFault → Type 0
 IsCut rows n fault = (row : Row) × (rest : List Row) × (rows_left rows ≡ row ∷ rest) × (length row ≢ COLUMNS) × (fault ≡ Csv n)
+
+-- what each row says, the first of them the n-th
+unfoldable pub each_said : List (List ℕ) → ℕ → List Row → Result (List (List ℕ × Step)) RecordFault
+each_said maneuvers n [] = Ok []
+each_said maneuvers n (row ∷ rows) = said maneuvers n row >>= λ p. each_said maneuvers (n + 1) rows >>= λ ps. Ok (p ∷ ps)
+
+-- each step of each recording, under its recording's name
+abbrev pub all_steps : List Recording → List (List ℕ × Step)
+all_steps [] = []
+all_steps (run ∷ runs) = map {A = Step} {B = List ℕ × Step} (λ step. (run.name, step)) run.steps ++ all_steps runs
+
+-- the recordings are well formed, and their steps are what the rows of the file say, in its order
+pub record AreRecordsOf (maneuvers : List (List ℕ)) (bytes : List ℕ) (records : Records) : Type 0 where
+  pub rows : List Row
+  pub header : under_header (rows_of bytes) ≡ Ok rows
+  pub say : each_said maneuvers 1 rows ≡ Ok (all_steps records.runs)
+  pub well_formed : AreRecords (length maneuvers) records

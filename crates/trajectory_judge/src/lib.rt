@@ -12,6 +12,8 @@ mod layers;
 mod limits;
 mod records;
 mod rows;
+#[cfg(test)]
+mod tests;
 
 pub use fault::RecordFault;
 pub use judged::Judged;
