@@ -8,6 +8,7 @@ use Rattle.rule_language.specs.declared.book.Book.{Book}
 use Rattle.rule_language.specs.declared.book.Rule.{Rule}
 use Rattle.rule_language.specs.declared.part.Part.{Part}
 use Rattle.violation_measures.specs.Intervals.{all_known, all_keep}
+use Rattle.violation_measures.specs.Resolved.{resolved_book}
 use Rattle.violation_measures.specs.Scenes.{scene_among, features_of}
 use Rattle.violation_measures.specs.Sources.{Features, bounds_of}
 use Rattle.violation_measures.specs.declared.bind_fault.BindFault.{BindFault}
@@ -92,9 +93,9 @@ maneuver_names lattice = map (λ (m : Maneuver). m.name) lattice.maneuvers
 abbrev pub features : SceneFiles → Features
 features files = features_of (scene_among (lanes_of files.scenario) files.scenario.obstacles files.lattice.length files.lattice.width (maneuver_names files.lattice))
 
--- the book as it is bound
+-- the book as it is bound to the features
 abbrev pub bound : SceneFiles → Bound
-bound files = record { book = files.book }
+bound files = resolved_book (features files).find files.book
 
 -- ---- binding and start
 

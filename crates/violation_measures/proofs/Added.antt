@@ -1,6 +1,6 @@
 -- A vector to which numbers are added one after the other.
-use Rattle.std.proofs.Common.{◌≡◌, ℕ, zero, suc, ◌+◌, ◌*◌, ◌<◌, ◌≤◌, ◌^◌, List, [], ◌∷◌, length, get_or, refl, sym, ap, ◌∙◌, arith}
-use Rattle.std.specs.Prelude.{All, slice_index, slice_set, replicate}
+use Rattle.std.proofs.Common.{◌≡◌, ℕ, zero, suc, ◌+◌, ◌<◌, ◌≤◌, ◌^◌, List, [], ◌∷◌, length, refl, ap, ◌∙◌, arith}
+use Rattle.std.specs.Prelude.{slice_index, slice_set}
 use Rattle.rulebook_order.specs.Sums.{sums}
 use Rattle.rulebook_order.specs.StepGraph.{HasRoom}
 
@@ -16,6 +16,9 @@ length_added zero xs ys = refl
 length_added (suc i) [] ys = refl
 length_added (suc i) (x ∷ xs) [] = refl
 length_added (suc i) (x ∷ xs) (y ∷ ys) = ap suc (length_added i xs ys)
+
+pub same_length : (out old amounts : List ℕ) (i : ℕ) → out ≡ added i old amounts → length out ≡ length old
+same_length out old amounts i is = ap length is ∙ length_added i old amounts
 
 -- those from the place on are as they were
 pub added_there : (i : ℕ) (xs ys : List ℕ) → slice_index (added i xs ys) i ≡ slice_index xs i
@@ -38,6 +41,9 @@ added_all zero (x ∷ xs) ys e h = absurd (omega arith)
 added_all (suc i) [] ys e h = refl
 added_all (suc i) (x ∷ xs) [] e h = absurd (omega arith)
 added_all (suc i) (x ∷ xs) (y ∷ ys) e h = ap (λ rest. (x + y) ∷ rest) (added_all i xs ys (omega arith) (omega arith))
+
+pub all_added : (out old amounts : List ℕ) (i : ℕ) → out ≡ added i old amounts → length old ≡ length amounts → length old ≤ i → out ≡ sums old amounts
+all_added out old amounts i is e h = is ∙ added_all i old amounts e h
 
 -- one number more
 pub added_one : (out old amounts new : List ℕ) (i amount : ℕ) → out ≡ added i old amounts → i < length old → i < length amounts → amount ≡ slice_index amounts i

@@ -1,12 +1,14 @@
 -- A source that finds what the one bound finds, with the same bounds, is one that the book is bound to.
 use Rattle.std.proofs.Common.{◌≡◌, ℕ, List, Option, Some, None, refl, sym, ap, subst, ◌∙◌}
-use Rattle.std.specs.Prelude.{All, IsTrue}
+use Rattle.std.specs.Prelude.{IsTrue}
 use Rattle.expressions.specs.declared.tree.Argument.{Argument}
 use Rattle.rule_language.specs.declared.book.Rule.{Rule}
 use Rattle.rule_language.specs.declared.part.Part.{Part}
 use Rattle.violation_measures.specs.Amounts.{IsBoundPart}
 use Rattle.violation_measures.specs.Binding.{IsBoundRule, IsBoundTo}
+use Rattle.violation_measures.specs.Formulas.{Find}
 use Rattle.violation_measures.specs.Intervals.{Bounds, all_known, all_keep}
+use Rattle.violation_measures.specs.Resolved.{resolved_book}
 use Rattle.violation_measures.specs.Sources.{Features, AreAlike, bounds_of, bounds_found}
 use Rattle.violation_measures.specs.declared.bound.Bound.{Bound}
 
@@ -33,4 +35,9 @@ rule_bound : (a b : Features) → AreAlike a b → (rule : Rule) → IsBoundRule
 rule_bound a b h rule r = record { some = r.some; few = r.few; parts = λ i part within. part_bound a b h _ (r.parts i part within) }
 
 pub bound_alike : (a b : Features) (bound : Bound) → AreAlike a b → IsBoundTo a bound → IsBoundTo b bound
-bound_alike a b bound h k = record { some = k.some; few = k.few; rules = λ i rule within. rule_bound a b h _ (k.rules i rule within) }
+bound_alike a b bound h k = record {
+  some = k.some;
+  few = k.few;
+  rules = λ i rule within. rule_bound a b h _ (k.rules i rule within);
+  resolved = k.resolved ∙ ap (λ (find : Find). resolved_book find bound.book) (sym (find_same a b h));
+}

@@ -1,5 +1,5 @@
 -- Where the interval of no subexpression passes 10^18, no value on the way does.
-use Rattle.std.proofs.Common.{◌≡◌, ℕ, ◌≤◌, ◌<◌, ◌^◌, ◌&&◌, Bool, true, false, ℤ, pos, negsuc, ◌≤ℤ◌, List, Option, Some, None, refl, sym, ap, subst, ◌∙◌, arith}
+use Rattle.std.proofs.Common.{◌≡◌, ℕ, ◌≤◌, ◌^◌, ◌&&◌, Bool, true, ℤ, pos, negsuc, ◌≤ℤ◌, List, Option, Some, refl, sym, ap, subst, ◌∙◌, arith}
 use Rattle.std.specs.Prelude.{int_lt, unsigned_abs, nat_le}
 use Rattle.std.proofs.lemmas.Int.{ints}
 use Rattle.std.proofs.lemmas.Bool.Decides.{nat_tests}
@@ -7,7 +7,7 @@ use Rattle.expressions.specs.declared.tree.Argument.{Argument}
 use Rattle.expressions.specs.declared.tree.Expr.{Expr}
 use Rattle.expressions.specs.declared.tree.Expr.TheViews.{roll-Expr}
 use Rattle.expressions.specs.declared.tree.Expr.TheOpen.{Expr-F}
-use Rattle.expressions.specs.declared.tree.Expr.TheFolds.{fold-Expr, fold-roll-Expr, ind-Expr, map-Expr, para-Expr, para-roll-Expr}
+use Rattle.expressions.specs.declared.tree.Expr.TheFolds.{fold-roll-Expr, ind-Expr, map-Expr, para-roll-Expr}
 use Rattle.expressions.specs.Written.{is_from_to, is_well_formed, well_formed_step}
 use Rattle.expressions.proofs.Lexemes.{both}
 use Rattle.violation_measures.specs.Values.{Valuation, value, value_step}

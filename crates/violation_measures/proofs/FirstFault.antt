@@ -1,13 +1,13 @@
 -- What a book that may be written keeps to, and which fault is the first.
-use Rattle.std.proofs.Common.{◌≡◌, Bool, true, ℕ, ◌+◌, ◌≤◌, ◌<◌, List, [], ◌∷◌, ◌++◌, length, get_or, refl, sym, subst, ◌∙◌, arith, length-append}
-use Rattle.std.specs.Prelude.{All, take, slice_index_or}
+use Rattle.std.proofs.Common.{◌≡◌, Bool, true, ℕ, ◌+◌, ◌≤◌, ◌<◌, List, [], ◌∷◌, length, get_or, refl, sym, subst, ◌∙◌}
+use Rattle.std.specs.Prelude.{All, take}
 use Rattle.std.proofs.lemmas.List.{get_or_default, take_more, take_all}
 use Rattle.std.proofs.lemmas.List.Elements.{All-nil, All-cons, All-append}
 use Rattle.rule_language.specs.Books.{IsBook}
 use Rattle.rule_language.specs.declared.book.Book.{Book}
 use Rattle.rule_language.specs.declared.book.Rule.{Rule}
-use Rattle.rule_language.specs.declared.part.Part.{Part}
-use Rattle.violation_measures.specs.Binding.{MayBind, RuleMayBind, IsFirst, IsBookPart, IsBookRule, IsBoundRule, IsBoundTo}
+use Rattle.violation_measures.specs.Binding.{RuleMayBind, IsFirst, IsBookRule, IsBoundRule, IsBoundTo}
+use Rattle.violation_measures.specs.Resolved.{resolved_book}
 use Rattle.violation_measures.specs.Sources.{Features}
 use Rattle.violation_measures.specs.declared.bound.Bound.{Bound}
 
@@ -23,10 +23,10 @@ bound_rule f rule h k = record {
   parts = λ j part here. record { weight = (h.parts j part here).weight; well_formed = (h.parts j part here).well_formed; known = (k.parts j part here).known; keeps = (k.parts j part here).keeps };
 }
 
-pub bound_book : (f : Features) (book : Book) (bound : Bound) → IsBook book → All (RuleMayBind f) book.rules → bound.book ≡ book → IsBoundTo f bound
+pub bound_book : (f : Features) (book : Book) (bound : Bound) → IsBook book → All (RuleMayBind f) book.rules → bound ≡ resolved_book f.find book → IsBoundTo f bound
 bound_book f book bound h may same =
     let rules = book_rules book h in
-    rw same (record { some = h.some; few = h.few; rules = λ i rule within. bound_rule f _ (rules i rule within) (may i rule within) })
+    subst (λ (b : Bound). IsBoundTo f b) (sym same) (record { some = h.some; few = h.few; rules = λ i rule within. bound_rule f _ (rules i rule within) (may i rule within); resolved = refl })
 
 pub first_at : {X : Type 0} (Fine Bad : X → Type 0) (items : List X) (i : ℕ) (item : X) → i < length items → item ≡ get_or items i item → All Fine (take i items) → Bad item → IsFirst Fine Bad items i
 first_at Fine Bad items i item within here before bad = record {

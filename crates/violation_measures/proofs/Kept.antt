@@ -1,17 +1,16 @@
 -- The interval that is worked out is there exactly where no subexpression's interval passes 10^18, and is the interval of the expression.
-use Rattle.std.proofs.Common.{◌≡◌, ℕ, ◌≤◌, ◌<◌, ◌^◌, ◌&&◌, Bool, true, false, cond, ℤ, pos, negsuc, List, Option, Some, None, refl, sym, ap, subst, ◌∙◌, arith}
+use Rattle.std.proofs.Common.{◌≡◌, ◌≤◌, ◌^◌, ◌&&◌, Bool, true, false, cond, pos, negsuc, Option, Some, None, refl, sym, subst, ◌∙◌, arith}
 use Rattle.std.specs.Prelude.{int_lt, nat_le}
 use Rattle.std.proofs.lemmas.Bool.Decides.{nat_tests}
-use Rattle.expressions.specs.declared.tree.Argument.{Argument}
 use Rattle.expressions.specs.declared.tree.Expr.{Expr}
 use Rattle.expressions.specs.declared.tree.Expr.TheViews.{roll-Expr}
 use Rattle.expressions.specs.declared.tree.Expr.TheOpen.{Expr-F}
-use Rattle.expressions.specs.declared.tree.Expr.TheFolds.{fold-Expr, fold-roll-Expr, ind-Expr, map-Expr, para-Expr, para-roll-Expr}
+use Rattle.expressions.specs.declared.tree.Expr.TheFolds.{fold-roll-Expr, ind-Expr, map-Expr, para-roll-Expr}
 use Rattle.expressions.specs.Written.{is_from_to, is_well_formed, well_formed_step}
 use Rattle.expressions.proofs.Lexemes.{both}
 use Rattle.scenario_model.specs.declared.problem.Span.{Span}
 use Rattle.violation_measures.specs.Intervals.{Bounds, from_to, absolute, product, interval, interval_step, keeps, every, keeps_step, all_keep}
-use Rattle.violation_measures.specs.Ranges.{kept, on_one, on_two, negated, summed, differing, lesser, greater, hull, choice, quotients, quotient, ranged, ranged_step}
+use Rattle.violation_measures.specs.Ranges.{on_one, on_two, negated, summed, differing, lesser, greater, hull, choice, quotients, ranged, ranged_step}
 
 -- the interval where the test passes
 abbrev if_so : Bool → Span → Option Span

@@ -9,3 +9,7 @@ pub mod VectorLaws
 pub mod FirstFault
 pub mod Kept
 pub mod Added
+pub mod FormulaLaws
+pub mod NotedLaws
+pub mod MeasuredLaws
+pub mod AmountLaws

@@ -1,12 +1,12 @@
 -- What steps and ends add, and the sums of runs.
-use Rattle.std.proofs.Common.{◌≡◌, ℕ, zero, suc, ◌+◌, ◌-◌, take, ◌*◌, ◌≤◌, ◌<◌, ◌^◌, Bool, true, false, cond, ℤ, pos, negsuc, List, [], ◌∷◌, ◌++◌, map, length, get_or, refl, sym, ap, ◌∙◌, zero-add, arith, Option, None, Some}
-use Rattle.std.specs.Prelude.{All, replicate, min, slice_index}
+use Rattle.std.proofs.Common.{◌≡◌, ℕ, ◌+◌, ◌-◌, take, ◌*◌, ◌≤◌, ◌<◌, ◌^◌, Bool, true, false, cond, ℤ, pos, negsuc, List, [], ◌∷◌, ◌++◌, map, length, get_or, refl, sym, ap, subst, ◌∙◌, zero-add, arith, Option, None, Some}
+use Rattle.std.specs.Prelude.{All, replicate, slice_index, slice_set}
 use Rattle.std.specs.List.{sum_by, last_or}
 use Rattle.std.proofs.lemmas.List.{length-map, length-take, get_or-map, take_more}
 use Rattle.std.proofs.Math.Seq.{take-length}
 use Rattle.std.proofs.Math.Nat.{mul-le-mul_right}
 use Rattle.std.proofs.lemmas.List.Elements.{All-map}
-use Rattle.std.proofs.lemmas.List.Sums.{sum_by-append, sum_by-cons, sum_by-le}
+use Rattle.std.proofs.lemmas.List.Sums.{sum_by-append, sum_by-le}
 use Rattle.preorder.specs.Violation.{IsWidth}
 use Rattle.rule_language.specs.declared.book.Rule.{Rule}
 use Rattle.rule_language.specs.declared.part.Part.{Part}
@@ -19,7 +19,10 @@ use Rattle.violation_measures.specs.Sources.{Features, at_step}
 use Rattle.violation_measures.specs.Values.{Valuation, value}
 use Rattle.violation_measures.specs.Vectors.{width, value_at, end_at, step_vector, end_vector, run, end_after, trajectory_vector, IsUpTo}
 use Rattle.violation_measures.specs.declared.bound.Bound.{Bound}
+use Rattle.violation_measures.specs.declared.bound.BoundPart.{BoundPart}
+use Rattle.violation_measures.specs.declared.bound.BoundRule.{BoundRule}
 use Rattle.violation_measures.specs.declared.step.Step.{Step}
+use Rattle.violation_measures.proofs.Added.{added, added_one}
 use Rattle.violation_measures.proofs.Sizes.{weighted_fits}
 
 -- ---- lists of numbers, one for each item
@@ -119,10 +122,25 @@ run_up_to f bound steps h = record {
 -- ---- what is added on the way
 
 -- the number at the place of a rule is that of the rule
-pub amount_at : (number : Rule → ℕ) (own rules : List Rule) (rule : Rule) (i amount : ℕ) → rules ≡ own → i < length rules → rule ≡ get_or rules i rule → amount ≡ number rule → amount ≡ slice_index (map number own) i
+pub amount_at : (number : BoundRule → ℕ) (own rules : List BoundRule) (rule : BoundRule) (i amount : ℕ) → rules ≡ own → i < length rules → rule ≡ get_or rules i rule → amount ≡ number rule → amount ≡ slice_index (map number own) i
 amount_at number own rules rule i amount same within here is =
-    let inside : i < length own = omega (arith, within, ap (length {A = Rule}) same) in
-    is ∙ ap number (here ∙ ap (λ (rs : List Rule). get_or rs i rule) same) ∙ sym (get_or-map number own i rule 0 inside)
+    let inside : i < length own = omega (arith, within, ap (length {A = BoundRule}) same) in
+    is ∙ ap number (here ∙ ap (λ (rs : List BoundRule). get_or rs i rule) same) ∙ sym (get_or-map number own i rule 0 inside)
+
+-- the rule's amount is added at its place
+pub rule_added : (count : List BoundPart → ℕ) (own rules : List BoundRule) (rule : BoundRule) (parts : List BoundPart) (amounts old out new : List ℕ) (i amount : ℕ)
+    → rules ≡ own → i < length rules → rule ≡ get_or rules i rule → parts ≡ (get_or rules i rule).parts → amount ≡ count parts → map (λ (r : BoundRule). count r.parts) own ≡ amounts
+    → out ≡ added i old amounts → i < length old → i < length amounts → new ≡ slice_set out i (slice_index out i + amount) → new ≡ added (i + 1) old amounts
+rule_added count own rules rule parts amounts old out new i amount same within here of counted vector before inside there is =
+    let value : amount ≡ count rule.parts = counted ∙ ap count of ∙ ap (λ (r : BoundRule). count r.parts) (sym here) in
+    let number = amount_at (λ (r : BoundRule). count r.parts) own rules rule i amount same within here value in
+    added_one out old amounts new i amount before inside there (number ∙ ap (λ (ns : List ℕ). slice_index ns i) vector) is
+
+-- what is so of each rule is so of the rule at a place
+pub at_rule : (P : BoundRule → Type 0) (own rules : List BoundRule) (rule : BoundRule) (i : ℕ) → rules ≡ own → i < length rules → rule ≡ get_or rules i rule → All P own → P rule
+at_rule P own rules rule i same within here all =
+    let inside : i < length own = omega (arith, within, ap (length {A = BoundRule}) same) in
+    subst P (sym (here ∙ ap (λ (rs : List BoundRule). get_or rs i rule) same)) (all i rule inside)
 
 -- after one step more
 pub run_next : (f : Features) (bound : Bound) (steps : List Step) (i : ℕ) (d : Step) → i < length steps → sums (run f bound (take i steps)) (step_vector f bound (get_or steps i d)) ≡ run f bound (take (i + 1) steps)

@@ -1,5 +1,5 @@
 -- At a step that keeps to its ranges the features of a source lie in their bounds.
-use Rattle.std.proofs.Common.{◌≡◌, ℤ, pos, ◌≤ℤ◌, List, ℕ, Option, Some, None, refl, arith}
+use Rattle.std.proofs.Common.{◌≡◌, pos, List, ℕ, Option, Some, None, refl, arith}
 use Rattle.std.proofs.lemmas.Int.{ints}
 use Rattle.expressions.specs.declared.tree.Argument.{Argument}
 use Rattle.violation_measures.specs.Intervals.{IsIn, from_to}

@@ -1,10 +1,12 @@
 -- When a book is bound to a source of features, and which is its first fault. This project's own.
-use Rattle.std.specs.Prelude.{◌≡◌, ℕ, ◌<◌, ◌≤◌, ◌^◌, List, [], length, take, All, IsTrue, slice_index_or}
+use Rattle.std.specs.Prelude.{◌≡◌, ℕ, ◌<◌, ◌≤◌, List, [], length, take, All, IsTrue, slice_index_or}
 use Rattle.expressions.specs.Written.{is_well_formed}
 use Rattle.rule_language.specs.declared.book.Rule.{Rule}
+use Rattle.rule_language.specs.declared.limits.TheConstants.{MAX_PARTS, MAX_RULES, MAX_WEIGHT}
 use Rattle.rule_language.specs.declared.part.Part.{Part}
 use Rattle.violation_measures.specs.Amounts.{IsBoundPart}
 use Rattle.violation_measures.specs.Intervals.{all_known, all_keep}
+use Rattle.violation_measures.specs.Resolved.{resolved_book}
 use Rattle.violation_measures.specs.Sources.{Features, bounds_of}
 use Rattle.violation_measures.specs.declared.bind_fault.BindFault.{BindFault}
 use Rattle.violation_measures.specs.declared.bind_fault.BindFault.TheVariants as fault
@@ -51,12 +53,12 @@ IsFaultOf f rules fault.NoMemory = Unit {0}
 
 -- what a part of any book keeps to
 pub record IsBookPart (part : Part) : Type 0 where
-  pub weight : part.weight ≤ 10 ^ 6
+  pub weight : part.weight ≤ MAX_WEIGHT
   pub well_formed : IsTrue (is_well_formed part.expr)
 
 -- what a rule of any book keeps to
 pub record IsBookRule (rule : Rule) : Type 0 where
-  pub few : length rule.parts ≤ 8
+  pub few : length rule.parts ≤ MAX_PARTS
   pub parts : All IsBookPart rule.parts
 
 -- the fault is that of part or rule i, which may not be bound
@@ -80,11 +82,12 @@ IsFaultOfRule f i rule fault.NoMemory = ⊥
 
 pub record IsBoundRule (f : Features) (rule : Rule) : Type 0 where
   pub some : 1 ≤ length rule.parts
-  pub few : length rule.parts ≤ 8
+  pub few : length rule.parts ≤ MAX_PARTS
   pub parts : All (IsBoundPart f) rule.parts
 
--- the book of what was bound is bound to the source
+-- the book of what was bound is bound to the source, and worked out over its features
 pub record IsBoundTo (f : Features) (bound : Bound) : Type 0 where
   pub some : 1 ≤ length bound.book.rules
-  pub few : length bound.book.rules ≤ 32
+  pub few : length bound.book.rules ≤ MAX_RULES
   pub rules : All (IsBoundRule f) bound.book.rules
+  pub resolved : bound ≡ resolved_book f.find bound.book

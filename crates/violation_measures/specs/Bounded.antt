@@ -1,6 +1,6 @@
 -- What traffic and lanes answer lies in bounds.
-use Rattle.std.proofs.Common.{◌≡◌, ℕ, ◌≤◌, Bool, true, false, cond, ℤ, pos, ◌≤ℤ◌, List, [], ◌∷◌, ◌++◌, map, length, refl, sym, ap, subst, ◌∙◌, arith, Option, None, Some}
-use Rattle.std.specs.Prelude.{count_by, int_lt, int_le, unsigned_abs, ◌&&◌}
+use Rattle.std.proofs.Common.{◌≡◌, ℕ, ◌≤◌, Bool, true, false, cond, ℤ, pos, ◌≤ℤ◌, List, [], ◌∷◌, ◌++◌, map, length, refl, sym, subst, arith, Option, None, Some}
+use Rattle.std.specs.Prelude.{int_lt, int_le, unsigned_abs, ◌&&◌}
 use Rattle.std.specs.List.{fold, flat_map}
 use Rattle.std.specs.Int.{int_min}
 use Rattle.std.proofs.lemmas.Int.{ints, clamps, fold-int_min_bounds}
@@ -15,6 +15,7 @@ use Rattle.moving_obstacles.specs.declared.track.Track.{Track}
 use Rattle.moving_obstacles.specs.Nearness.{is_met, gaps, along, side, is_ahead, distances, least}
 use Rattle.moving_obstacles.specs.Tracks.{shapes_in, pose_in, meeting_in, nearest_gap_in, headway_in}
 use Rattle.lanelet_network.specs.Lanes.{Lane, count_at, holds}
+use Rattle.violation_measures.specs.declared.feature.TheConstants.{MAX_DISTANCE}
 
 -- no number is below 0
 abbrev NotBelow : List ℤ → Type 0
@@ -42,11 +43,11 @@ fold_not_below a (n ∷ ns) h k = fold_not_below (int_min a n) ns (lesser_not_be
 
 least_not_below : (ns : List ℤ) → NotBelow ns → pos 0 ≤ℤ least ns
 unfolding least
-least_not_below ns h = fold_not_below (pos 10000000) ns (omega (arith, ints)) h
+least_not_below ns h = fold_not_below MAX_DISTANCE ns (omega (arith, ints)) h
 
-least_most : (ns : List ℤ) → least ns ≤ℤ pos 10000000
+least_most : (ns : List ℤ) → least ns ≤ℤ MAX_DISTANCE
 unfolding least
-least_most ns = (fold-int_min_bounds (pos 10000000) ns (fold int_min (pos 10000000) ns) refl).0
+least_most ns = (fold-int_min_bounds MAX_DISTANCE ns (fold int_min MAX_DISTANCE ns) refl).0
 
 gap_not_below : (a b : Box2) → pos 0 ≤ℤ box_gap a b
 unfolding box_gap
@@ -71,7 +72,7 @@ pub gap_low : (tracks : List Track) (ego : Box2) (tick : ℕ) → pos 0 ≤ℤ n
 unfolding nearest_gap_in
 gap_low tracks ego tick = least_not_below (flat_map (λ (t : Track). gaps ego (shapes_in t tick)) tracks) (not_below-flat_map (λ (t : Track). gaps ego (shapes_in t tick)) (λ t. gaps_not_below ego (shapes_in t tick)) tracks)
 
-pub gap_high : (tracks : List Track) (ego : Box2) (tick : ℕ) → nearest_gap_in tracks ego tick ≤ℤ pos 10000000
+pub gap_high : (tracks : List Track) (ego : Box2) (tick : ℕ) → nearest_gap_in tracks ego tick ≤ℤ MAX_DISTANCE
 unfolding nearest_gap_in
 gap_high tracks ego tick = least_most (flat_map (λ (t : Track). gaps ego (shapes_in t tick)) tracks)
 
@@ -81,7 +82,7 @@ headway_low tracks position heading width tick =
     let f : Track → List ℤ = λ t. distances position (direction heading) width (pose_in t tick) in
     least_not_below (flat_map f tracks) (not_below-flat_map f (λ t. distances_not_below position (direction heading) width (pose_in t tick)) tracks)
 
-pub headway_high : (tracks : List Track) (position : Point) (heading width : ℤ) (tick : ℕ) → headway_in tracks position heading width tick ≤ℤ pos 10000000
+pub headway_high : (tracks : List Track) (position : Point) (heading width : ℤ) (tick : ℕ) → headway_in tracks position heading width tick ≤ℤ MAX_DISTANCE
 unfolding headway_in
 headway_high tracks position heading width tick = least_most (flat_map (λ (t : Track). distances position (direction heading) width (pose_in t tick)) tracks)
 

@@ -1,11 +1,12 @@
 -- The interval of an expression, from the bounds of features. This project's own.
-use Rattle.std.specs.Prelude.{ℕ, ◌^◌, ℤ, pos, ◌+ℤ◌, ◌-ℤ◌, ◌*ℤ◌, ◌≤ℤ◌, neg_ℤ, unsigned_abs, int_div, int_le, Bool, true, ◌&&◌, nat_le, List, Option, is_some, if◌then◌else◌}
+use Rattle.std.specs.Prelude.{ℕ, ℤ, pos, ◌+ℤ◌, ◌-ℤ◌, ◌*ℤ◌, ◌≤ℤ◌, neg_ℤ, unsigned_abs, int_div, int_le, Bool, true, ◌&&◌, nat_le, List, Option, is_some, if◌then◌else◌}
 use Rattle.std.specs.Int.{int_min, int_max}
 use Rattle.scenario_model.specs.declared.problem.Span.{Span}
 use Rattle.expressions.specs.declared.tree.Argument.{Argument}
 use Rattle.expressions.specs.declared.tree.Expr.{Expr}
 use Rattle.expressions.specs.declared.tree.Expr.TheOpen.{Expr-F}
 use Rattle.expressions.specs.declared.tree.Expr.TheFolds.{fold-Expr, para-Expr, map-Expr}
+use Rattle.violation_measures.specs.declared.value.TheConstants.{MAX_VALUE}
 
 -- the number is one of the whole numbers from low to high
 pub record IsIn (i : Span) (n : ℤ) : Type 0 where
@@ -50,7 +51,7 @@ interval bounds = fold-Expr Span (interval_step bounds)
 
 -- at most 10^18 in size
 abbrev pub is_small : ℤ → Bool
-is_small n = nat_le (unsigned_abs n) (10 ^ 18)
+is_small n = nat_le (unsigned_abs n) MAX_VALUE
 
 -- whether neither end passes 10^18 in size
 abbrev pub keeps : Span → Bool

@@ -1,12 +1,12 @@
--- The source of the tests: one feature, with bounds 0 to 1.
-use Rattle.std.proofs.Common.{◌≡◌, ℕ, ℤ, pos, ◌≤ℤ◌, Bool, true, false, cond, ◌&&◌, ◌==◌, ◌%◌, List, Option, Some, None, arith}
-use Rattle.std.specs.Prelude.{codes, is_none}
+-- The sources of the tests: one feature, with bounds 0 to 1; and a hundred features.
+use Rattle.std.proofs.Common.{ℕ, ℤ, pos, Bool, true, false, cond, ◌&&◌, ◌==◌, ◌%◌, Option, Some, None, arith}
+use Rattle.std.specs.Prelude.{codes, is_none, nat_lt, min}
 use Rattle.std.specs.Str.{bytes_eq}
 use Rattle.std.proofs.lemmas.Int.{ints}
 use Rattle.expressions.specs.declared.tree.Argument.{Argument}
+use Rattle.expressions.specs.declared.tree.Argument.TheVariants.{Named, Number}
 use Rattle.violation_measures.specs.Intervals.{IsIn, from_to}
 use Rattle.violation_measures.specs.Sources.{Features, AreSound}
-use Rattle.violation_measures.specs.declared.step.Step.{Step}
 
 -- whether a lamp is lit at a tick
 abbrev pub lit : ℕ → ℤ
@@ -30,4 +30,27 @@ lamp_sound = record {
   ordered = λ n known. omega (arith, ints);
   most = λ n known. omega (arith, ints);
   within = λ n step known is. lit_within (step.tick % 2 == 1);
+}
+
+-- ---- a hundred dials, each of which always shows its number
+
+abbrev pub dial_of : Option Argument → Option ℕ
+dial_of (Some (Number n)) = cond (nat_lt n 100) (Some n) None
+dial_of (Some (Named name)) = None
+dial_of None = None
+
+-- `dial(N)` for each N below 100
+abbrev pub dials : Features
+dials = record {
+  find = λ name argument. cond (bytes_eq name (codes "dial")) (dial_of argument) None;
+  bounds = λ n. from_to (pos 0) (pos 100);
+  value = λ n step. pos (min n 100);
+}
+
+pub dials_sound : AreSound dials
+dials_sound = record {
+  least = λ n known. omega (arith, ints);
+  ordered = λ n known. omega (arith, ints);
+  most = λ n known. omega (arith, ints);
+  within = λ n step known is. record { above = omega (arith, ints); below = omega (arith, ints) };
 }

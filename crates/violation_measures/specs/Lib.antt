@@ -2,9 +2,12 @@ pub mod Amounts
 pub mod Binding
 pub mod Bounded
 pub mod Checked
+pub mod Formulas
 pub mod Intervals
 pub mod Lamps
+pub mod Measured
 pub mod Ranges
+pub mod Resolved
 pub mod SceneFacts
 pub mod SceneLaws
 pub mod SceneSources

@@ -8,6 +8,8 @@ use Rattle.moving_obstacles.proofs.Same.{meeting_same, nearest_gap_same, headway
 use Rattle.violation_measures.specs.Bounded.{gap_low, gap_high, headway_low, headway_high, meeting_high}
 use Rattle.violation_measures.specs.TableLaws.{IsScene}
 use Rattle.violation_measures.specs.Scenes.{Scene, scene_among}
+use Rattle.violation_measures.specs.declared.feature.TheConstants.{MAX_LANELETS, MAX_OBSTACLES}
+use Rattle.violation_measures.specs.declared.scene_source.TheConstants.{MAX_MANEUVERS}
 
 abbrev pub scene_in : List Lane → List Track → ℤ → ℤ → List (List ℕ) → Scene
 scene_in lanes tracks ego_length ego_width maneuvers = record {
@@ -20,7 +22,7 @@ scene_in lanes tracks ego_length ego_width maneuvers = record {
   maneuvers = maneuvers;
 }
 
-pub scene_is : (lanes : List Lane) (tracks : List Track) (l w : ℤ) (maneuvers : List (List ℕ)) → length lanes ≤ 4000 → length tracks ≤ 500 → length maneuvers ≤ 2048 → IsScene (scene_in lanes tracks l w maneuvers)
+pub scene_is : (lanes : List Lane) (tracks : List Track) (l w : ℤ) (maneuvers : List (List ℕ)) → length lanes ≤ MAX_LANELETS → length tracks ≤ MAX_OBSTACLES → length maneuvers ≤ MAX_MANEUVERS → IsScene (scene_in lanes tracks l w maneuvers)
 scene_is lanes tracks l w maneuvers few_lanes few_tracks few_maneuvers = record {
   few_lanes = few_lanes;
   few_maneuvers = few_maneuvers;

@@ -118,9 +118,9 @@ either_way size = from_to (neg_ℤ size) size
 
 -- the bounds
 abbrev pub bounds_in : Feature → Span
-bounds_in feature.Overlaps = up_to MAX_OBSTACLES
+bounds_in feature.Overlaps = up_to (pos MAX_OBSTACLES)
 bounds_in feature.OffRoad = up_to (pos 4)
-bounds_in feature.Lanes = up_to MAX_LANELETS
+bounds_in feature.Lanes = up_to (pos MAX_LANELETS)
 bounds_in feature.WrongWay = up_to (pos 1)
 bounds_in feature.Speed = either_way MAX_SPEED
 bounds_in feature.Accel = either_way MAX_SPEED

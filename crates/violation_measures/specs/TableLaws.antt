@@ -1,8 +1,8 @@
 -- The features of a scene have numbers of their own, and lie in their bounds.
-use Rattle.std.proofs.Common.{◌≡◌, ℕ, ◌+◌, ◌-◌, ◌<◌, ◌≤◌, Bool, true, false, not, ◌==◌, cond, ℤ, pos, ◌≤ℤ◌, neg_ℤ, List, [], ◌∷◌, map, length, get_or, refl, sym, ap, subst, ◌∙◌, arith, Option, None, Some}
-use Rattle.std.specs.Prelude.{IsSome, IsTrue, ◌↔◌, codes, nat_lt, count_by, unsigned_abs}
+use Rattle.std.proofs.Common.{◌≡◌, ℕ, ◌+◌, ◌-◌, ◌<◌, ◌≤◌, Bool, true, false, not, cond, ℤ, pos, ◌≤ℤ◌, neg_ℤ, List, [], length, get_or, refl, sym, ap, subst, ◌∙◌, arith, Option, None, Some}
+use Rattle.std.specs.Prelude.{IsSome, ◌↔◌, codes, nat_lt, unsigned_abs}
 use Rattle.std.specs.List.{position, list_any}
-use Rattle.std.specs.Option.{option_map, option_map_or}
+use Rattle.std.specs.Option.{option_map}
 use Rattle.std.specs.Str.{bytes_eq}
 use Rattle.std.proofs.lemmas.Int.{ints}
 use Rattle.std.proofs.lemmas.Bool.Decides.{nat_tests, Decides-eqb}
@@ -14,26 +14,29 @@ use Rattle.expressions.specs.declared.tree.Argument.TheVariants.{Named, Number}
 use Rattle.fixed_geometry.specs.declared.point.Point.{Point}
 use Rattle.fixed_geometry.specs.declared.point.Box2.{Box2}
 use Rattle.fixed_geometry.specs.Shapes.{rectangle}
-use Rattle.lanelet_network.specs.Lanes.{Lane, has_id, holds, count_at}
+use Rattle.lanelet_network.specs.Lanes.{Lane, has_id, holds}
 use Rattle.scenario_model.specs.declared.problem.Span.{Span}
 use Rattle.violation_measures.specs.Intervals.{IsIn}
-use Rattle.violation_measures.specs.Scenes.{Scene, one_if, is_driven, ego, plain, in_lanelet, maneuver, known, value_in, bounds_in, number, numbered, features_of, HasTable}
-use Rattle.violation_measures.specs.Sources.{AreSound, IsKnown}
+use Rattle.violation_measures.specs.Scenes.{Scene, one_if, ego, plain, in_lanelet, maneuver, known, value_in, bounds_in, number, numbered, features_of, HasTable}
+use Rattle.violation_measures.specs.Sources.{AreSound}
 use Rattle.violation_measures.specs.Steps.{IsStep}
 use Rattle.violation_measures.specs.declared.feature.Feature.{Feature}
 use Rattle.violation_measures.specs.declared.feature.Feature.TheVariants as feature
-use Rattle.violation_measures.specs.declared.feature.TheConstants.{FIRST_LANELET, FIRST_MANEUVER, PAST_FEATURES}
+use Rattle.violation_measures.specs.declared.feature.TheConstants.{FIRST_LANELET, FIRST_MANEUVER, PAST_FEATURES, MAX_OBSTACLES, MAX_LANELETS, MAX_DISTANCE}
+use Rattle.violation_measures.specs.declared.scene_source.TheConstants.{MAX_MANEUVERS}
+use Rattle.violation_measures.specs.declared.source.TheConstants.{MAX_BOUND}
 use Rattle.violation_measures.specs.declared.step.Step.{Step}
+use Rattle.violation_measures.specs.declared.step.TheConstants.{MAX_SPEED, MAX_TURN}
 
 -- what is so of a scene whose traffic and lanelets are few
 pub record IsScene (scene : Scene) : Type 0 where
-  pub few_lanes : length scene.lanes ≤ 4000
-  pub few_maneuvers : length scene.maneuvers ≤ 2048
-  pub few_met : (ego : List Point) (tick : ℕ) → scene.meeting ego tick ≤ 500
+  pub few_lanes : length scene.lanes ≤ MAX_LANELETS
+  pub few_maneuvers : length scene.maneuvers ≤ MAX_MANEUVERS
+  pub few_met : (ego : List Point) (tick : ℕ) → scene.meeting ego tick ≤ MAX_OBSTACLES
   pub gap_low : (ego : Box2) (tick : ℕ) → pos 0 ≤ℤ scene.nearest_gap ego tick
-  pub gap_high : (ego : Box2) (tick : ℕ) → scene.nearest_gap ego tick ≤ℤ pos 10000000
+  pub gap_high : (ego : Box2) (tick : ℕ) → scene.nearest_gap ego tick ≤ℤ MAX_DISTANCE
   pub headway_low : (p : Point) (heading width : ℤ) (tick : ℕ) → pos 0 ≤ℤ scene.headway p heading width tick
-  pub headway_high : (p : Point) (heading width : ℤ) (tick : ℕ) → scene.headway p heading width tick ≤ℤ pos 10000000
+  pub headway_high : (p : Point) (heading width : ℤ) (tick : ℕ) → scene.headway p heading width tick ≤ℤ MAX_DISTANCE
 
 -- ---- names and numbers
 
@@ -81,8 +84,8 @@ IsPlaced feature.Turn = Unit {0}
 IsPlaced feature.Tick = Unit {0}
 IsPlaced feature.Gap = Unit {0}
 IsPlaced feature.Headway = Unit {0}
-IsPlaced (feature.InLanelet place) = place < 4000
-IsPlaced (feature.Maneuver place) = place < 2048
+IsPlaced (feature.InLanelet place) = place < MAX_LANELETS
+IsPlaced (feature.Maneuver place) = place < MAX_MANEUVERS
 
 -- what is so of the feature of a name and an argument
 record IsRow (scene : Scene) (name : List ℕ) (argument : Option Argument) (row : Feature) : Type 0 where
@@ -154,20 +157,20 @@ row_is scene h name (Some (Named about)) row e = maneuver_row scene h name about
 
 -- ---- numbers
 
-lanelet_back : (place : ℕ) → place < 4000 → numbered (FIRST_LANELET + place) ≡ feature.InLanelet place
+lanelet_back : (place : ℕ) → place < MAX_LANELETS → numbered (FIRST_LANELET + place) ≡ feature.InLanelet place
 unfolding numbered
 lanelet_back place h =
-    let low : nat_lt (10 + place) 10 ≡ false = grind (arith, nat_tests) in
-    let high : nat_lt (10 + place) 5000 ≡ true = grind (arith, nat_tests, h) in
-    let back : 10 + place - 10 ≡ place = omega arith in
+    let low : nat_lt (FIRST_LANELET + place) FIRST_LANELET ≡ false = grind (arith, nat_tests) in
+    let high : nat_lt (FIRST_LANELET + place) FIRST_MANEUVER ≡ true = grind (arith, nat_tests, h) in
+    let back : FIRST_LANELET + place - FIRST_LANELET ≡ place = omega arith in
     rw (low, high) (ap feature.InLanelet back)
 
 maneuver_back : (place : ℕ) → numbered (FIRST_MANEUVER + place) ≡ feature.Maneuver place
 unfolding numbered
 maneuver_back place =
-    let low : nat_lt (5000 + place) 10 ≡ false = grind (arith, nat_tests) in
-    let high : nat_lt (5000 + place) 5000 ≡ false = grind (arith, nat_tests) in
-    let back : 5000 + place - 5000 ≡ place = omega arith in
+    let low : nat_lt (FIRST_MANEUVER + place) FIRST_LANELET ≡ false = grind (arith, nat_tests) in
+    let high : nat_lt (FIRST_MANEUVER + place) FIRST_MANEUVER ≡ false = grind (arith, nat_tests) in
+    let back : FIRST_MANEUVER + place - FIRST_MANEUVER ≡ place = omega arith in
     rw (low, high) (ap feature.Maneuver back)
 
 numbered_back : (row : Feature) → IsPlaced row → numbered (number row) ≡ row
@@ -266,9 +269,9 @@ value_within scene h feature.OffRoad step s = record {
 }
 value_within scene h feature.Lanes step s = record { above = omega (arith, ints); below = omega (arith, ints, h.few_lanes, count_by-le-length (holds (record { x = step.x; y = step.y })) scene.lanes) }
 value_within scene h feature.WrongWay step s = record { above = one_low _; below = one_high _ }
-value_within scene h feature.Speed step s = let w = size_within step.speed 1000000 s.speed in record { above = w.0; below = w.1 }
-value_within scene h feature.Accel step s = let w = size_within step.accel 1000000 s.accel in record { above = w.0; below = w.1 }
-value_within scene h feature.Turn step s = let w = size_within step.turn 10000000 s.turn in record { above = w.0; below = w.1 }
+value_within scene h feature.Speed step s = let w = size_within step.speed (unsigned_abs MAX_SPEED) s.speed in record { above = w.0; below = w.1 }
+value_within scene h feature.Accel step s = let w = size_within step.accel (unsigned_abs MAX_SPEED) s.accel in record { above = w.0; below = w.1 }
+value_within scene h feature.Turn step s = let w = size_within step.turn (unsigned_abs MAX_TURN) s.turn in record { above = w.0; below = w.1 }
 value_within scene h feature.Tick step s = record { above = omega (arith, ints); below = omega (arith, ints, s.tick) }
 value_within scene h feature.Gap step s = record { above = h.gap_low _ _; below = h.gap_high _ _ }
 value_within scene h feature.Headway step s = record { above = h.headway_low _ _ _ _; below = h.headway_high _ _ _ _ }
@@ -276,9 +279,9 @@ value_within scene h (feature.InLanelet place) step s = record { above = one_low
 value_within scene h (feature.Maneuver place) step s = record { above = one_low _; below = one_high _ }
 
 record IsBounded (i : Span) : Type 0 where
-  least : neg_ℤ (pos 1000000000000) ≤ℤ i.low
+  least : neg_ℤ MAX_BOUND ≤ℤ i.low
   ordered : i.low ≤ℤ i.high
-  most : i.high ≤ℤ pos 1000000000000
+  most : i.high ≤ℤ MAX_BOUND
 
 bounds_bounded : (row : Feature) → IsBounded (bounds_in row)
 bounds_bounded feature.Overlaps = record { least = omega (arith, ints); ordered = omega (arith, ints); most = omega (arith, ints) }

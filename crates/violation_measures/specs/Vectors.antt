@@ -1,6 +1,6 @@
 -- The vector of a trajectory: how much it violates each rule, over all its steps and at its end.
 -- This project's own, for the rulebooks of Censi and others, 2019.
-use Rattle.std.specs.Prelude.{◌≡◌, ◌≤◌, ℕ, ◌+◌, List, [], ◌∷◌, length, map, All, Option, Some, None}
+use Rattle.std.specs.Prelude.{◌≡◌, ◌≤◌, ℕ, ◌+◌, List, length, map, All, Option, Some, None}
 use Rattle.std.specs.List.{sum_by, last_or}
 use Rattle.rule_language.specs.declared.book.Rule.{Rule}
 use Rattle.violation_measures.specs.Amounts.{rule_value, end_value}

@@ -5,10 +5,10 @@ use crate::step::{MAX_SPEED, MAX_TICK, MAX_TURN};
 use scenario_model::Span;
 
 /// The most obstacles that a scenario has.
-pub const MAX_OBSTACLES: i64 = 500;
+pub const MAX_OBSTACLES: u32 = 500;
 
 /// The most lanelets that a scenario has.
-pub const MAX_LANELETS: i64 = 4_000;
+pub const MAX_LANELETS: u32 = 4_000;
 
 /// The farthest that is told apart, in 0.1 mm.
 pub const MAX_DISTANCE: i64 = 10_000_000;
@@ -133,9 +133,9 @@ impl Feature {
         ensures { result ≡ bounds_in self }
     {
         match self {
-            Feature::Overlaps => up_to(MAX_OBSTACLES),
+            Feature::Overlaps => up_to(i64::from(MAX_OBSTACLES)),
             Feature::OffRoad => up_to(4),
-            Feature::Lanes => up_to(MAX_LANELETS),
+            Feature::Lanes => up_to(i64::from(MAX_LANELETS)),
             Feature::WrongWay | Feature::InLanelet(_) | Feature::Maneuver(_) => up_to(1),
             Feature::Speed | Feature::Accel => either_way(MAX_SPEED),
             Feature::Turn => either_way(MAX_TURN),

@@ -1,6 +1,9 @@
 ghost use Rattle.std.specs.Prelude.{◌≡◌, ◌≤◌, length};
 ghost use Rattle.fixed_geometry.specs.Shapes.{IsExtent};
+ghost use Rattle.violation_measures.specs.declared.feature.TheConstants.{MAX_LANELETS, MAX_OBSTACLES};
+ghost use Rattle.violation_measures.specs.declared.scene_source.TheConstants.{MAX_MANEUVERS};
 
+use crate::feature::{MAX_LANELETS, MAX_OBSTACLES};
 use lanelet_network::Network;
 use moving_obstacles::Traffic;
 use preorder::Name;
@@ -18,11 +21,11 @@ pub struct SceneSource<'a> {
     ego_length: i64,
     ego_width: i64,
     maneuvers: &'a [Name],
-    pub ghost few_lanelets: { length network.now ≤ 4000 },
-    pub ghost few_obstacles: { length traffic.now ≤ 500 },
+    pub ghost few_lanelets: { length network.now ≤ MAX_LANELETS },
+    pub ghost few_obstacles: { length traffic.now ≤ MAX_OBSTACLES },
     pub ghost long: { IsExtent ego_length },
     pub ghost wide: { IsExtent ego_width },
-    pub ghost few_maneuvers: { length maneuvers.now ≤ 2048 },
+    pub ghost few_maneuvers: { length maneuvers.now ≤ MAX_MANEUVERS },
 }
 
 impl<'a> SceneSource<'a> {
@@ -49,7 +52,7 @@ impl<'a> SceneSource<'a> {
     ) -> SceneSource<'a>
         requires long { IsExtent ego_length }
         requires wide { IsExtent ego_width }
-        requires few { length maneuvers.now ≤ 2048 }
+        requires few { length maneuvers.now ≤ MAX_MANEUVERS }
         ensures scene { ForObstacles traffic.now (λ obstacles. scene_of result ≡ scene_among network.now obstacles ego_length ego_width maneuvers.now) }
         ensures table { HasTable (scene_of result) (features_of (scene_of result)) }
     {
@@ -64,10 +67,10 @@ impl<'a> SceneSource<'a> {
     }
 }
 
-// A network has at most 4,000 lanelets, and a traffic at most 500 obstacles.
+// A network has few lanelets, and a traffic few obstacles.
 fn prove_few(network: &Network, traffic: &Traffic)
-    ensures lanelets { length network.now ≤ 4000 }
-    ensures obstacles { length traffic.now ≤ 500 }
+    ensures lanelets { length network.now ≤ MAX_LANELETS }
+    ensures obstacles { length traffic.now ≤ MAX_OBSTACLES }
 {
     let _ = network.count();
     let _ = traffic.count();

@@ -8,17 +8,21 @@ ghost use Rattle.std.specs.Int.{int_min, int_max};
 ghost use Rattle.violation_measures.specs.Sources.{at_step};
 ghost use Rattle.violation_measures.specs.Steps.{IsStep};
 ghost use Rattle.violation_measures.specs.Checked.{cut, of_one, of_two, chosen, divided, checked_value, IsSmall};
+ghost use Rattle.violation_measures.specs.Formulas.{on_number, on_numbers, formula_value};
+ghost use Rattle.violation_measures.specs.Measured.{measured_at};
 
+use crate::formula::{Binary, Formula, Unary};
+use crate::measure::measured_at;
 use crate::source::FeatureSource;
 use crate::step::Step;
 use preorder::Name;
-use rule_language::{Argument, Expr};
+use rule_language::Argument;
 
 /// The most in size that a value on the way may be.
 pub(crate) const MAX_VALUE: u128 = 1_000_000_000_000_000_000;
 
 /// The number where it is small.
-fn cut(value: i128) -> Option<i128>
+pub(crate) fn cut(value: i128) -> Option<i128>
     ensures exact { result ≡ cut value }
     ensures small { IfSome result IsSmall }
 {
@@ -108,7 +112,7 @@ fn greatest(a: Option<i128>, b: Option<i128>) -> Option<i128>
     cut(a?.max(b?))
 }
 
-fn chosen(a: Option<i128>, b: Option<i128>, c: Option<i128>) -> Option<i128>
+pub(crate) fn chosen(a: Option<i128>, b: Option<i128>, c: Option<i128>) -> Option<i128>
     ensures exact { result ≡ chosen a b c }
     ensures small { IfSome result IsSmall }
 {
@@ -116,7 +120,7 @@ fn chosen(a: Option<i128>, b: Option<i128>, c: Option<i128>) -> Option<i128>
     if a > 0 { cut(b) } else { cut(c) }
 }
 
-fn divided(a: Option<i128>, divisor: i64) -> Option<i128>
+pub(crate) fn divided(a: Option<i128>, divisor: i64) -> Option<i128>
     requires { IfSome a IsSmall }
     ensures exact { result ≡ divided a divisor }
     ensures small { IfSome result IsSmall }
@@ -128,43 +132,59 @@ fn divided(a: Option<i128>, divisor: i64) -> Option<i128>
     cut(a / i128::from(divisor))
 }
 
-/// The value at a step, where no value on the way passes 10^18 in size.
-pub fn value_of<S: FeatureSource>(source: &S, step: &Step, expr: &Expr) -> Option<i128>
-    requires { IsStep step.now }
-    ensures exact { result ≡ checked_value (at_step (S.features source.now) step.now) expr.now }
+pub(crate) fn applied(operation: Unary, a: Option<i128>) -> Option<i128>
+    requires { IfSome a IsSmall }
+    ensures exact { result ≡ of_one (on_number operation) a }
     ensures small { IfSome result IsSmall }
 {
-    match expr {
-        Expr::Const(value) => cut(i128::from(*value)),
-        Expr::Feature(name, argument) => feature_value(source, step, name, argument),
-        Expr::Neg(a) => negated(value_of(source, step, a.get())),
-        Expr::Abs(a) => absolute(value_of(source, step, a.get())),
-        Expr::Add(a, b) => added(
-            value_of(source, step, a.get()),
-            value_of(source, step, b.get()),
+    match operation {
+        Unary::Neg => negated(a),
+        Unary::Abs => absolute(a),
+    }
+}
+
+pub(crate) fn combined(operation: Binary, a: Option<i128>, b: Option<i128>) -> Option<i128>
+    requires a { IfSome a IsSmall }
+    requires b { IfSome b IsSmall }
+    ensures exact { result ≡ of_two (on_numbers operation) a b }
+    ensures small { IfSome result IsSmall }
+{
+    match operation {
+        Binary::Add => added(a, b),
+        Binary::Sub => taken(a, b),
+        Binary::Mul => multiplied(a, b),
+        Binary::Min => least(a, b),
+        Binary::Max => greatest(a, b),
+    }
+}
+
+/// The value at a step, by the values that are measured there, where no value on the way passes 10^18 in size.
+pub fn value_of<S: FeatureSource>(
+    source: &S,
+    step: &Step,
+    values: &[i64],
+    formula: &Formula,
+) -> Option<i128>
+    requires { IsStep step.now }
+    ensures exact { result ≡ formula_value (measured_at values.now) (at_step (S.features source.now) step.now) formula.now }
+    ensures small { IfSome result IsSmall }
+{
+    match formula {
+        Formula::Const(value) => cut(i128::from(*value)),
+        Formula::Measured(place) => cut(i128::from(measured_at(values, *place))),
+        Formula::Asked(name, argument) => feature_value(source, step, name, argument),
+        Formula::One(operation, a) => applied(*operation, value_of(source, step, values, a.get())),
+        Formula::Two(operation, a, b) => combined(
+            *operation,
+            value_of(source, step, values, a.get()),
+            value_of(source, step, values, b.get()),
         ),
-        Expr::Sub(a, b) => taken(
-            value_of(source, step, a.get()),
-            value_of(source, step, b.get()),
+        Formula::If(a, b, c) => chosen(
+            value_of(source, step, values, a.get()),
+            value_of(source, step, values, b.get()),
+            value_of(source, step, values, c.get()),
         ),
-        Expr::Mul(a, b) => multiplied(
-            value_of(source, step, a.get()),
-            value_of(source, step, b.get()),
-        ),
-        Expr::Min(a, b) => least(
-            value_of(source, step, a.get()),
-            value_of(source, step, b.get()),
-        ),
-        Expr::Max(a, b) => greatest(
-            value_of(source, step, a.get()),
-            value_of(source, step, b.get()),
-        ),
-        Expr::If(a, b, c) => chosen(
-            value_of(source, step, a.get()),
-            value_of(source, step, b.get()),
-            value_of(source, step, c.get()),
-        ),
-        Expr::Div(a, divisor) => divided(value_of(source, step, a.get()), *divisor),
+        Formula::Div(a, divisor) => divided(value_of(source, step, values, a.get()), *divisor),
     }
 }
 

@@ -8,6 +8,7 @@ ghost use Rattle.violation_measures.specs.Vectors.{width, step_vector, end_vecto
 
 use super::Bound;
 use crate::amount::{end_value, rule_value};
+use crate::measure::measure;
 use crate::source::FeatureSource;
 use crate::step::Step;
 use preorder::{NoMemory, Violation};
@@ -37,10 +38,11 @@ impl Bound {
         requires room { HasRoom MAX_AMOUNT out.old }
         ensures { out.new ≡ sums out.old (step_vector (S.features source.now) self.now step.now) }
     {
-        let rules = self.book.rules.as_slice();
+        let values = measure(source, step, self.at_steps.as_slice());
+        let rules = self.rules.as_slice();
         for i in 0..rules.len() {
             let parts = rules[i].parts.as_slice();
-            out.add_at(i, rule_value(source, step, parts));
+            out.add_at(i, rule_value(source, step, &values, parts));
         }
     }
 
@@ -54,11 +56,12 @@ impl Bound {
         requires room { HasRoom MAX_AMOUNT out.old }
         ensures { out.new ≡ sums out.old (end_vector (S.features source.now) self.now step.now) }
     {
-        let rules = self.book.rules.as_slice();
         let last = step.finish();
+        let values = measure(source, &last, self.at_end.as_slice());
+        let rules = self.rules.as_slice();
         for i in 0..rules.len() {
             let parts = rules[i].parts.as_slice();
-            out.add_at(i, end_value(source, &last, parts));
+            out.add_at(i, end_value(source, &last, &values, parts));
         }
     }
 

@@ -1,4 +1,4 @@
-use Rattle.std.proofs.Common.{◌≡◌, ◌≤◌, length}
+use Rattle.std.proofs.Common.{◌≡◌}
 use Rattle.violation_measures.specs.Vectors.{end_vector}
 use Rattle.violation_measures.proofs.Added.{added}
 use Rattle.violation_measures.proofs.bound.Bound.add_end.Given as goal

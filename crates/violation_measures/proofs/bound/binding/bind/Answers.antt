@@ -11,5 +11,5 @@ test_rules-requires g c = subst (λ (rules : List Rule). All IsBookRule rules) (
 pub returns-clause-bound : goal.returns-clause-bound
 returns-clause-bound g c =
     let f = g.S.FeatureSource.features c.args.source.now in
-    bound_book f c.args.book.now (record { book = c.in_ok-copy_book.field-0 }) c.requires
-    (subst (λ (rules : List Rule). All (RuleMayBind f) rules) c.as_slice.ensures c.in_ok-test_rules.ensures.ok) c.in_ok-copy_book.ensures
+    bound_book f c.args.book.now _ c.requires
+    (subst (λ (rules : List Rule). All (RuleMayBind f) rules) c.as_slice.ensures c.in_ok-test_rules.ensures.ok) c.in_ok-resolve_book.ensures

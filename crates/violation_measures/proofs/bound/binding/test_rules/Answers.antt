@@ -1,4 +1,4 @@
-use Rattle.std.proofs.Common.{rules, arith, ◌<◌, ◌≤◌, length}
+use Rattle.std.proofs.Common.{rules, ◌<◌, ◌≤◌, length}
 use Rattle.violation_measures.specs.Binding.{RuleMayBind}
 use Rattle.violation_measures.proofs.FirstFault.{all_next, all_end}
 use Rattle.violation_measures.proofs.bound.binding.test_rules.Goals as goal
