@@ -1,5 +1,5 @@
 -- A test on whether names are all different.
-use Rattle.std.proofs.Common.{◌≡◌, ℕ, zero, suc, ◌<◌, Bool, true, List, [], ◌∷◌, length, get_or, sym, refl, ap, ◌∙◌, arith}
+use Rattle.std.proofs.Common.{◌≡◌, ℕ, zero, suc, Bool, true, List, [], ◌∷◌, ap, arith}
 use Rattle.std.specs.Prelude.{◌≢◌, All, not, ◌&&◌}
 use Rattle.std.specs.List.{AllPairs, list_all}
 use Rattle.std.specs.Str.{bytes_eq}

@@ -10,10 +10,9 @@ use Rattle.expressions.specs.declared.tree.Expr.TheVariants as e
 use Rattle.expressions.specs.declared.tree.Expr.TheOpen.{Expr-F}
 use Rattle.lanelet_network.specs.Lanes.{Lane}
 use Rattle.scenario_model.specs.declared.obstacle.Obstacle.{Obstacle}
-use Rattle.rule_language.specs.declared.book.Rule.{Rule}
 use Rattle.rule_language.specs.declared.part.Part.{Part}
 use Rattle.violation_measures.specs.Binding.{MayBind, RuleMayBind}
-use Rattle.violation_measures.specs.Intervals.{all_known, all_known_step, keeps_step}
+use Rattle.violation_measures.specs.Intervals.{all_known_step, keeps_step}
 use Rattle.violation_measures.specs.Scenes.{scene_among, features_of, plain, maneuver, numbered}
 use Rattle.violation_measures.specs.Sources.{Features, bounds_of}
 use Rattle.maneuver_lattice.specs.declared.lattice.Maneuver.{Maneuver}

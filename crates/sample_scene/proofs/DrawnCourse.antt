@@ -1,5 +1,5 @@
 -- Three draws, one after the other.
-use Rattle.std.proofs.Common.{◌≡◌, ℕ, suc, ◌+◌, ◌*◌, sym, ap, ◌∙◌, arith, add-one}
+use Rattle.std.proofs.Common.{◌≡◌, ℕ, ◌+◌, ◌*◌, sym, ap, ◌∙◌, arith, add-one}
 use Rattle.sample_scene.specs.Draws.{following, given_by, state_after}
 use Rattle.sample_scene.specs.Motorway.{course, drawn_course}
 

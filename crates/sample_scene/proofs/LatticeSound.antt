@@ -1,6 +1,6 @@
 -- The sample lattice is well formed, and a vehicle may start in it. What is asked of each step and each maneuver is put as a test, which is worked out.
-use Rattle.std.proofs.Common.{◌≡◌, ℕ, ◌<◌, ◌≤◌, ◌^◌, Bool, true, List, length, refl, arith}
-use Rattle.std.specs.Prelude.{pos, All, ◌&&◌, nat_le, nat_lt, unsigned_abs, count_by, IsSome}
+use Rattle.std.proofs.Common.{◌≡◌, ◌≤◌, ◌^◌, Bool, true, List, length, refl, arith}
+use Rattle.std.specs.Prelude.{pos, ◌&&◌, nat_le, nat_lt, unsigned_abs, count_by, IsSome}
 use Rattle.std.specs.List.{list_all}
 use Rattle.std.proofs.lemmas.Bool.{and_parts, leb-true, ltb-true}
 use Rattle.std.proofs.lemmas.Int.{ints}
@@ -13,7 +13,7 @@ use Rattle.maneuver_lattice.specs.declared.lattice.LatticeStep.{LatticeStep}
 use Rattle.maneuver_lattice.specs.declared.lattice.Maneuver.{Maneuver}
 use Rattle.sample_scene.specs.Maneuvers.{classes, maneuvers, lattice}
 use Rattle.sample_scene.proofs.Made.{each_passes}
-use Rattle.sample_scene.proofs.Apart.{are_apart, different_by_test}
+use Rattle.sample_scene.proofs.Apart.{different_by_test}
 
 abbrev is_class : Class → Bool
 is_class c = is_name c.name && (nat_le (unsigned_abs c.heading) (10 ^ 7) && nat_le (unsigned_abs c.speed) (10 ^ 6))

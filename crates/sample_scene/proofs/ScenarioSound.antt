@@ -1,18 +1,15 @@
 -- The sample scenario is well formed.
-use Rattle.std.proofs.Common.{◌≡◌, ℕ, ◌+◌, ◌*◌, ◌<◌, ◌≤◌, ◌^◌, List, [], ◌∷◌, map, arith}
-use Rattle.std.specs.Prelude.{ℤ, pos, neg_ℤ, ◌+ℤ◌, ◌-ℤ◌, unsigned_abs, All, ◌≢◌, true}
+use Rattle.std.proofs.Common.{ℕ, ◌*◌, ◌<◌, ◌≤◌, ◌^◌, List, [], ◌∷◌, map, arith}
+use Rattle.std.specs.Prelude.{ℤ, pos, neg_ℤ, ◌+ℤ◌, ◌-ℤ◌, unsigned_abs, ◌≢◌}
 use Rattle.std.specs.List.{range_with_len}
 use Rattle.std.proofs.lemmas.Int.{ints}
 use Rattle.std.proofs.lemmas.Nat.{mul-le}
 use Rattle.std.proofs.lemmas.List.Elements.{All-nil, All-cons}
-use Rattle.fixed_geometry.specs.declared.point.Point.{Point}
 use Rattle.scenario_model.specs.declared.lanelet.Lanelet.{Lanelet}
 use Rattle.scenario_model.specs.declared.obstacle.Obstacle.{Obstacle}
-use Rattle.scenario_model.specs.declared.problem.Problem.{Problem}
 use Rattle.scenario_model.specs.Scenario.{IsRead, IsBound, IsShape, IsPose, IsLanelet, IsObstacle, IsGoal, IsKnown, IsRegion, IsProblem, IsScenario}
 use Rattle.sample_scene.specs.declared.cars.Course.{Course}
-use Rattle.sample_scene.specs.Draws.{draw}
-use Rattle.sample_scene.specs.Motorway.{at, bound, lane, middle, pose, car_shape, car, drawn_course, drawn_car, goal, problem, scenario}
+use Rattle.sample_scene.specs.Motorway.{at, bound, lane, middle, pose, car_shape, drawn_course, drawn_car, goal, problem, scenario}
 use Rattle.sample_scene.proofs.Made.{each_made, each_two_made}
 
 bound_is_read : (y : ℤ) → unsigned_abs y ≤ 10 ^ 11 → IsBound (bound y)

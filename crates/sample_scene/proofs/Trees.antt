@@ -7,7 +7,7 @@ use Rattle.expressions.specs.declared.tree.Expr.{Expr}
 use Rattle.expressions.specs.declared.tree.Expr.TheVariants as e
 use Rattle.expressions.specs.declared.tree.Expr.TheOpen.{Expr-F}
 use Rattle.expressions.specs.declared.tree.Expr.TheFolds.{fold-Expr, fold-roll-Expr, para-roll-Expr}
-use Rattle.violation_measures.specs.Intervals.{Bounds, from_to, interval, interval_step, keeps, keeps_step, all_keep}
+use Rattle.violation_measures.specs.Intervals.{Bounds, from_to, interval_step, keeps, keeps_step, all_keep}
 
 pub at_constant : (A : Type 0) (step : Expr-F A → A) (n : ℤ) → fold-Expr A step (e.Const n) ≡ step (Expr-F.Const n)
 at_constant A step n = ap (fold-Expr A step) (sym (e.rolls-Const n)) ∙ fold-roll-Expr A step (Expr-F.Const n)
