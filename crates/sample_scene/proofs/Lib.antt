@@ -1,0 +1,11 @@
+pub mod Sizes
+pub mod Loops
+pub mod DrawnCourse
+pub mod Made
+pub mod Apart
+pub mod ScenarioSound
+pub mod LatticeSound
+pub mod Trees
+pub mod BookSound
+pub mod BookBound
+pub mod SampleLaws

@@ -1,0 +1,5 @@
+pub mod Draws
+pub mod Motorway
+pub mod Maneuvers
+pub mod Rules
+pub mod Sample
