@@ -216,7 +216,13 @@ impl Book {
 
     /// Adds the statements of a line of this kind, `above` or `same`, on the rules of two names. `number` is that of the line.
     #[tactic(auto, unfolding(crate::specs::Books::pair_line))]
-    pub fn add_pair(&mut self, number: usize, kind: &[u8], a: &[u8], b: &[u8]) -> Result<(), BookFault>
+    pub fn add_pair(
+        &mut self,
+        number: usize,
+        kind: &[u8],
+        a: &[u8],
+        b: &[u8],
+    ) -> Result<(), BookFault>
         ensures { Gives is_memory (λ _. self.new) result (pair_line number kind.now a.now b.now self.old) }
     {
         if kind == b"above".as_slice() {
