@@ -84,7 +84,7 @@ module _ (f : Features) where
       let some : 1 ≤ length rule.parts = omega (arith, h.1.here) in
       with_parts i rule.parts some ∙ first_part i Bad fault tells rule.parts h.0 h.1
 
-  rules_bound : (k : ℕ) (rules : List Rule) → All (RuleMayBind f) rules → bind_rules f k rules ≡ Ok tt
+  pub rules_bound : (k : ℕ) (rules : List Rule) → All (RuleMayBind f) rules → bind_rules f k rules ≡ Ok tt
   rules_bound k [] h = refl
   rules_bound k (rule ∷ rules) h =
       ap (λ (r : Result ⊤ BindFault). ◌then◌ r (λ _. bind_rules f (k + 1) rules)) (rule_bound k rule (All-head (RuleMayBind f) rule rules h))

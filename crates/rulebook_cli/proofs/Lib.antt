@@ -12,6 +12,8 @@ pub mod WalkTexts
 pub mod Derivings
 pub mod Judgings
 pub mod Recorded
+pub mod SampleWords
+pub mod Sampled
 pub mod OneOutcome
 pub mod Accepted
 pub mod Headlines

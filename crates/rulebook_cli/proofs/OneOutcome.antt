@@ -10,7 +10,7 @@ use Rattle.rulebook_order.proofs.Unique.{IsFront-unique, IsVerdict-unique}
 use Rattle.command_outcome.specs.Outcome.{Outcome}
 use Rattle.command_outcome.specs.Tasks.{IsDueTo, EndAlike, KeepsFiles}
 use Rattle.command_outcome.proofs.DueOutcomes.{alike, end_alike, keeps, same_outcome}
-use Rattle.rulebook_cli.specs.Words.{Request, pick, compare, show, walk, accept, derive, judge, plan, check, reading}
+use Rattle.rulebook_cli.specs.Words.{Request, pick, compare, show, walk, accept, derive, judge, plan, check, sample, help, reading}
 use Rattle.rulebook_cli.specs.Asked.{task_by, task_of}
 use Rattle.rulebook_cli.specs.Pick.{PickMakes, IsPickText, kept_lines}
 use Rattle.rulebook_cli.specs.Compare.{CompareMakes, IsCompareText, IsPairLine, pair_line, pairs}
@@ -29,6 +29,7 @@ use Rattle.rulebook_cli.specs.Plan.{PlanMakes, plan_task}
 use Rattle.rulebook_cli.proofs.Ascending.{one_list}
 use Rattle.rulebook_cli.proofs.Derivings.{accept_keeps, derive_keeps, one_accept, one_derive}
 use Rattle.rulebook_cli.proofs.Recorded.{one_judge}
+use Rattle.rulebook_cli.proofs.Sampled.{one_sample, sample_keeps}
 use Rattle.rulebook_cli.proofs.Lines.{lines_unique, one_pair_line}
 
 one_pick_text : (book : Book) (rows : List Row) (s t : List ℕ) → IsPickText book rows s → IsPickText book rows t → s ≡ t
@@ -61,7 +62,7 @@ one_walk files x o p h k = same_outcome o p (h.done ∙ sym k.done) (one_walk_te
 
 one_accepted : (before : Files) (files : SceneFiles) (certificate : Certificate) (o p : Outcome) → IsAccepted before files certificate o → IsAccepted before files certificate p → o ≡ p
 one_accepted before files certificate o p h k =
-    let same : h.answers ≡ k.answers = one_list h.answers k.answers h.shows.answers_are.ascending k.shows.answers_are.ascending
+    let same : h.answers ≡ k.answers = one_list (λ (a : Attained). a.vector) h.answers k.answers h.shows.answers_are.ascending k.shows.answers_are.ascending
     (λ a. (λ listed. (k.shows.of_finals a).1 ((h.shows.of_finals a).0 listed), λ listed. (h.shows.of_finals a).1 ((k.shows.of_finals a).0 listed))) in
     h.is ∙ ap (λ (answers : List Attained). record { status = status.Done; text = accepted_text files answers; files = before }) same ∙ sym k.is
 
@@ -113,6 +114,8 @@ once_to (derive parent script) files o p one = alike (λ o p. o ≡ p) (λ o. re
 once_to (judge scenario book lattice records) files o p one = alike (λ o p. o ≡ p) (λ o. refl) (task_of (judge scenario book lattice records)) files (one_judge files) o p
 once_to (plan scenario book lattice name) files o p one = absurd cc
 once_to (check scenario book lattice name) files o p one = alike (λ o p. o ≡ p) (λ o. refl) (task_of (check scenario book lattice name)) files (one_check files) o p
+once_to (sample number) files o p one = alike (λ o p. o ≡ p) (λ o. refl) (task_of (sample number)) files (one_sample files) o p
+once_to help files o p one = alike (λ o p. o ≡ p) (λ o. refl) (task_of help) files (λ x o p h k. h ∙ sym k) o p
 once_to (show scenario) files o p one = alike (λ o p. o ≡ p) (λ o. refl) (task_of (show scenario)) files (λ x o p h k. h ∙ sym k) o p
 
 ends_to : (request : Request) (files : Files) (o p : Outcome) → IsDueTo (task_of request) files o → IsDueTo (task_of request) files p → EndAlike o p
@@ -124,6 +127,8 @@ ends_to (derive parent script) files o p h k = end_alike o p (once_to (derive pa
 ends_to (judge scenario book lattice records) files o p h k = end_alike o p (once_to (judge scenario book lattice records) files o p refl h k)
 ends_to (plan scenario book lattice name) files o p h k = alike EndAlike same_end (task_of (plan scenario book lattice name)) files (plan_ends name files) o p h k
 ends_to (check scenario book lattice name) files o p h k = end_alike o p (once_to (check scenario book lattice name) files o p refl h k)
+ends_to (sample number) files o p h k = end_alike o p (once_to (sample number) files o p refl h k)
+ends_to help files o p h k = end_alike o p (once_to help files o p refl h k)
 ends_to (show scenario) files o p h k = end_alike o p (once_to (show scenario) files o p refl h k)
 
 keeps_to : (request : Request) (files : Files) (o : Outcome) → IsDueTo (task_of request) files o → KeepsFiles (task_of request) files o
@@ -135,6 +140,8 @@ keeps_to (derive parent script) files = keeps (task_of (derive parent script)) f
 keeps_to (judge scenario book lattice records) files = keeps (task_of (judge scenario book lattice records)) files (λ x o h. inl h.stays)
 keeps_to (plan scenario book lattice name) files = keeps (task_of (plan scenario book lattice name)) files (plan_keeps scenario book lattice name files)
 keeps_to (check scenario book lattice name) files = keeps (task_of (check scenario book lattice name)) files (check_keeps scenario book lattice name files)
+keeps_to (sample number) files = keeps (task_of (sample number)) files (sample_keeps number files)
+keeps_to help files = keeps (task_of help) files (λ x o h. inl (ap (λ (q : Outcome). q.files) h))
 keeps_to (show scenario) files = keeps (task_of (show scenario)) files (λ x o h. inl (ap (λ (q : Outcome). q.files) h))
 
 once_by : (request : Option Request) (files : Files) (o p : Outcome) → (task_by request).saves ≡ None → IsDueTo (task_by request) files o → IsDueTo (task_by request) files p → o ≡ p

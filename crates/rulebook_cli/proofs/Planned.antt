@@ -29,7 +29,7 @@ use Rattle.command_outcome.proofs.Serving.{ends, outcome, saved, saving_stops}
 use Rattle.rulebook_cli.specs.Answers.{NoWorseFor, graph_of}
 use Rattle.rulebook_cli.specs.Certificates.{IsOrderOf}
 use Rattle.rulebook_cli.specs.Plan.{HasTooMany, HasUndominated, IsPlan, PlanMakes, plan_inputs, plan_task}
-use Rattle.rulebook_cli.specs.Planning.{PlanStops}
+use Rattle.rulebook_cli.specs.Planning.{StopsTooMuch}
 use Rattle.rulebook_cli.specs.declared.scene_files.SceneFiles.{SceneFiles}
 use Rattle.rulebook_cli.proofs.Ordered.{all_agree, more_agree, test_is}
 
@@ -73,7 +73,7 @@ module _ (files : SceneFiles) (order : Preorder) (is_order : IsOrderOf files.boo
         (subst (IsGood (graph_of files) (NoWorseFor files)) (sym copied) ((IsGood-agree (graph_of files) (NoWorseBy order) (NoWorseFor files) is_order.words (cert_of found)).0 good)))
 
 -- there are too many labels
-pub many_stops : (files : SceneFiles) (end : Stop) → HasTooMany files → EndsAs ending.TooManyLabels (codes "too many labels\n") end → PlanStops files end
+pub many_stops : (files : SceneFiles) (end : Stop) → HasTooMany files → EndsAs ending.TooManyLabels (codes "too many labels\n") end → StopsTooMuch files end
 many_stops files stop.NoMemory many h = tt
 many_stops files (stop.Ended e text) many h = (many, h)
 many_stops files (stop.Unread role) many h = absurd h
@@ -82,7 +82,7 @@ many_stops files stop.Unsaved many h = absurd h
 -- ---- what is due
 
 module _ (scenario book lattice name : List ℕ) (old mid : Shelf) (files : SceneFiles) (had : Has (plan_inputs scenario book lattice) old mid files) where
-  pub plan_stops : (end : Stop) → PlanStops files end → Stops (plan_task scenario book lattice name) old mid end
+  pub plan_stops : (end : Stop) → StopsTooMuch files end → Stops (plan_task scenario book lattice name) old mid end
   plan_stops stop.NoMemory h = had.stands
   plan_stops (stop.Ended e text) h =
       ends (plan_task scenario book lattice name) old mid files had ending.TooManyLabels (codes "too many labels\n") (stop.Ended e text) h.1 (λ before. inr (record { many = h.0; is = refl }))

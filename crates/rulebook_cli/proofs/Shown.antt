@@ -102,7 +102,7 @@ module _ (files : SceneFiles) (bound_to : IsBoundTo (features files) (bound file
   attained : (v : List ℕ) → IsDriven (scene files) (features files) (bound files) v → IsAttained (graph_of files) v
   attained v d = record { list = d.list; attains = (attains d.list v).1 (d.drives, d.vector_is) }
 
-  unbeaten : (v : List ℕ) → IsInFront (NoWorseFor files) (IsAttained (graph_of files)) v ↔ IsUnbeaten files v
+  pub unbeaten : (v : List ℕ) → IsInFront (NoWorseFor files) (IsAttained (graph_of files)) v ↔ IsUnbeaten files v
   unbeaten v = (
     λ f. record { has = driven v f.has; unbeaten = λ w h beats. f.unbeaten w (attained w h) beats },
     λ f. record { has = attained v f.has; unbeaten = λ w h beats. f.unbeaten w (driven w h) beats },
@@ -144,7 +144,7 @@ module _ (files : SceneFiles) (bound_to : IsBoundTo (features files) (bound file
               λ listed. (unbeaten v).0 ((there.exact v).0 (Contains-permutation (vectors_of sorted) (vectors_of answers) v moved_back listed)),
               λ f. Contains-permutation (vectors_of answers) (vectors_of sorted) v moved ((there.exact v).1 ((unbeaten v).1 f)),
             );
-            ascending = sorted_ascends answers sorted answer.once same up;
+            ascending = sorted_ascends (λ (a : Attained). a.vector) answers sorted answer.once same up;
             driven = All-permutation (IsDrivenBy files) answers sorted same (λ k d inside. driven_by _ (each k d inside));
             none = λ empty list trajectory.
                 let a = (attains list _).1 (trajectory, refl) in

@@ -37,7 +37,10 @@ pub record IsDrivenBy (files : SceneFiles) (answer : Attained) : Type 0 where
 abbrev pub AreAscending : List (List ℕ) → Type 0
 AreAscending vectors = IsStrictlySortedBy (slice_cmp nat_cmp) vectors
 
--- the same as a test of two answers
+-- the same as a test of two vectors, and of two answers
+abbrev pub vector_before : List ℕ → List ℕ → Bool
+vector_before one other = is_lt (slice_cmp nat_cmp one other)
+
 abbrev pub comes_before : Attained → Attained → Bool
 comes_before one other = is_lt (slice_cmp nat_cmp one.vector other.vector)
 

@@ -1,7 +1,7 @@
 -- What words ask for, as a task. This project's own.
 use Rattle.std.specs.Prelude.{ℕ, List, Option, None, Some}
 use Rattle.command_outcome.specs.Tasks.{Task, usage}
-use Rattle.rulebook_cli.specs.Words.{Request, pick, compare, show, walk, accept, derive, judge, plan, check, reading}
+use Rattle.rulebook_cli.specs.Words.{Request, pick, compare, show, walk, accept, derive, judge, plan, check, sample, help, reading}
 use Rattle.rulebook_cli.specs.Pick.{pick_task}
 use Rattle.rulebook_cli.specs.Compare.{compare_task}
 use Rattle.rulebook_cli.specs.Show.{show_task}
@@ -11,6 +11,8 @@ use Rattle.rulebook_cli.specs.Derive.{derive_task}
 use Rattle.rulebook_cli.specs.Judge.{judge_task}
 use Rattle.rulebook_cli.specs.Plan.{plan_task}
 use Rattle.rulebook_cli.specs.Check.{check_task}
+use Rattle.rulebook_cli.specs.Sample.{sample_task}
+use Rattle.rulebook_cli.specs.Help.{help_task}
 
 abbrev pub task_of : Request → Task
 task_of (pick book table) = pick_task book table
@@ -22,6 +24,8 @@ task_of (derive parent script) = derive_task parent script
 task_of (judge scenario book lattice records) = judge_task scenario book lattice records
 task_of (plan scenario book lattice certificate) = plan_task scenario book lattice certificate
 task_of (check scenario book lattice certificate) = check_task scenario book lattice certificate
+task_of (sample number) = sample_task number
+task_of help = help_task
 
 -- words with no reading are told the usage
 abbrev pub task_by : Option Request → Task

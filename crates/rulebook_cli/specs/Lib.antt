@@ -21,6 +21,9 @@ pub mod Derive
 pub mod RecordInput
 pub mod Judge
 pub mod Judgeable
+pub mod Sample
+pub mod Sampled
+pub mod Help
 pub mod Asked
 pub mod Headline
 pub mod ExitStatus

@@ -9,12 +9,12 @@ use Rattle.rulebook_cli.specs.declared.planning.Planned.{Planned}
 use Rattle.rulebook_cli.specs.declared.scene_files.SceneFiles.{SceneFiles}
 
 -- too many labels, or want of memory
-abbrev pub PlanStops : SceneFiles → Stop → Type 0
-PlanStops files stop.NoMemory = ⊤
-PlanStops files (stop.Ended e text) = HasTooMany files × EndsAs ending.TooManyLabels (codes "too many labels\n") (stop.Ended e text)
-PlanStops files (stop.Unread role) = ⊥
-PlanStops files stop.Unsaved = ⊥
+abbrev pub StopsTooMuch : SceneFiles → Stop → Type 0
+StopsTooMuch files stop.NoMemory = ⊤
+StopsTooMuch files (stop.Ended e text) = HasTooMany files × EndsAs ending.TooManyLabels (codes "too many labels\n") (stop.Ended e text)
+StopsTooMuch files (stop.Unread role) = ⊥
+StopsTooMuch files stop.Unsaved = ⊥
 
 abbrev pub Plans : SceneFiles → Result Planned Stop → Type 0
 Plans files (Ok planned) = IsPlan files planned.text.items planned.certificate.items
-Plans files (Err end) = PlanStops files end
+Plans files (Err end) = StopsTooMuch files end

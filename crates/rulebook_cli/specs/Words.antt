@@ -1,12 +1,16 @@
 -- What the words of the command line ask for. This project's own.
-use Rattle.std.specs.Prelude.{◌≡◌, ℕ, Bool, false, not, ◌&&◌, ◌==◌, if◌then◌else◌, List, [], ◌∷◌, map, Option, None, Some, codes}
+use Rattle.std.specs.Prelude.{◌≡◌, ◌≤◌, ℕ, Bool, false, not, ◌&&◌, ◌==◌, if◌then◌else◌, List, [], ◌∷◌, map, Option, None, Some, length, nat_le, ⊤, codes}
 use Rattle.std.specs.declared.alloc.Global.{Global}
 use Rattle.std.specs.declared.string.String.{String}
 use Rattle.std.specs.String.{string_bytes}
 use Rattle.std.specs.List.{list_all}
+use Rattle.std.specs.Option.{option_map}
 use Rattle.std.specs.Str.{bytes_eq}
+use Rattle.reading.specs.Words.{number_of}
+use Rattle.sample_scene.specs.declared.sample.TheConstants.{MAX_NUMBER}
 use Rattle.rulebook_cli.specs.declared.words.Command.{Command}
-use Rattle.rulebook_cli.specs.declared.words.Command.TheVariants.{Pick, Compare, Show, Walk, Accept, Derive, Judge, Plan, Check}
+use Rattle.rulebook_cli.specs.declared.words.Command.TheVariants.{Pick, Compare, Show, Walk, Accept, Derive, Judge, Plan, Check, Sample, Help}
+use Rattle.rulebook_cli.specs.declared.words.TheConstants.{MAX_DIGITS}
 
 -- a command with the names of its files
 pub data Request : Type 0 where
@@ -19,6 +23,8 @@ pub data Request : Type 0 where
   judge : (scenario book lattice records : List ℕ) → Request
   plan : (scenario book lattice certificate : List ℕ) → Request
   check : (scenario book lattice certificate : List ℕ) → Request
+  sample : (number : ℕ) → Request
+  help : Request
 
 -- the words as plain texts
 abbrev pub texts : List (String Global) → List (List ℕ)
@@ -32,9 +38,20 @@ abbrev pub is_word : List ℕ → Bool
 is_word [] = false
 is_word (c ∷ rest) = not (c == dash)
 
--- the command of one word
+-- the command without a word
+abbrev pub no_words : List ℕ → Option Request
+no_words command = if bytes_eq command (codes "--help") then Some help else None
+
+-- the number of a sample scene: one to six digits
+abbrev pub sample_number : List ℕ → Option ℕ
+sample_number word = if nat_le (length word) MAX_DIGITS then number_of word else None
+
+-- the commands of one word
 abbrev pub one_word : List ℕ → List ℕ → Option Request
-one_word command a = if bytes_eq command (codes "show") then Some (show a) else None
+one_word command a =
+    if bytes_eq command (codes "show") then Some (show a)
+    else if bytes_eq command (codes "sample") then option_map sample (sample_number a)
+    else None
 
 -- the commands of two words
 abbrev pub two_words : List ℕ → List ℕ → List ℕ → Option Request
@@ -60,6 +77,7 @@ four_words command a b c d =
 
 -- a command with just as many words as it has
 abbrev pub with_words : List ℕ → List (List ℕ) → Option Request
+with_words command [] = no_words command
 with_words command (a ∷ []) = one_word command a
 with_words command (a ∷ b ∷ []) = two_words command a b
 with_words command (a ∷ b ∷ c ∷ d ∷ []) = four_words command a b c d
@@ -85,3 +103,10 @@ request_of (Derive parent script) = derive parent.now script.now
 request_of (Judge scenario book lattice records) = judge scenario.now book.now lattice.now records.now
 request_of (Plan scenario book lattice certificate) = plan scenario.now book.now lattice.now certificate.now
 request_of (Check scenario book lattice certificate) = check scenario.now book.now lattice.now certificate.now
+request_of (Sample number) = sample number
+request_of Help = help
+
+-- the number of a sample scene is within its limit
+abbrev pub IsCommand : Command → Type 0
+IsCommand (Sample number) = number ≤ MAX_NUMBER
+IsCommand command = ⊤

@@ -15,11 +15,13 @@ mod comparing;
 #[cfg(test)]
 mod derivation_tests;
 mod derivations;
+mod helping;
 mod inputs;
 mod laws;
 mod picking;
 mod planning;
 mod recordings;
+mod sampling;
 mod scenario_input;
 mod scene_files;
 #[cfg(test)]

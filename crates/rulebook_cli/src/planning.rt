@@ -38,8 +38,8 @@ pub struct Planned {
     certificate: Vec<u8>,
 }
 
-// What a search finds. Steps are counted in a ledger that begins with this blank.
-fn searched<L: Ledger>(
+/// What a search finds. Steps are counted in a ledger that begins with this blank.
+pub fn searched<L: Ledger>(
     alloc: Global,
     blank: Blank,
     graph: &Graph<'_>,

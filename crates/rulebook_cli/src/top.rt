@@ -2,16 +2,18 @@ ghost use Rattle.std.specs.Prelude.{◌≡◌, ◌⊎◌};
 ghost use Rattle.std.specs.Io.KnownBytes.{Appends};
 ghost use Rattle.command_outcome.specs.Outcome.{IsDueStatus};
 ghost use Rattle.command_outcome.specs.Ends.{Answers, EndsCut, EndsDue, EndsUnread, EndsUnsaved, EndsUsage, IsComplete, Serves, paper, shelf};
-ghost use Rattle.rulebook_cli.specs.Words.{HasNoReading, request_of, texts};
+ghost use Rattle.rulebook_cli.specs.Words.{HasNoReading, IsCommand, request_of, texts};
 ghost use Rattle.rulebook_cli.specs.Asked.{asked, task_of};
 ghost use Rattle.rulebook_cli.specs.Headline.{CheckPrintsTheAnswer, PlanPrintsTheAnswer};
 
 use crate::checking::check;
 use crate::comparing::compare_rows;
 use crate::derivations::{accept_child, derive};
+use crate::helping::help;
 use crate::picking::pick;
 use crate::planning::plan;
 use crate::recordings::judge_records;
+use crate::sampling::sample;
 use crate::showing::show;
 use crate::walking::walk;
 use crate::words::{Command, read_words};
@@ -21,6 +23,7 @@ use std::alloc::Global;
 
 /// Does the command's work.
 fn serve<S: Store>(alloc: Global, store: &mut S, command: Command<'_>) -> Result<Vec<u8>, Stop>
+    requires { IsCommand command }
     ensures { Serves (task_of (request_of command.entry))
         (shelf S.held S.faults S.failed store.old) (shelf S.held S.faults S.failed store.new) result }
 {
@@ -54,6 +57,8 @@ fn serve<S: Store>(alloc: Global, store: &mut S, command: Command<'_>) -> Result
             lattice,
             certificate,
         } => check(alloc, store, scenario, book, lattice, certificate),
+        Command::Sample { number } => sample(alloc, number),
+        Command::Help => help(alloc),
     }
 }
 

@@ -1,8 +1,11 @@
-ghost use Rattle.std.specs.Prelude.{◌≡◌};
+ghost use Rattle.std.specs.Prelude.{◌≡◌, ◌≤◌, IfSome};
 ghost use Rattle.std.specs.List.{list_all};
 ghost use Rattle.std.specs.Option.{option_map};
 ghost use Rattle.std.specs.String.{string_bytes};
-ghost use Rattle.rulebook_cli.specs.Words.{is_another, is_word, reading, texts, request_of, one_word, two_words, four_words, with_words};
+ghost use Rattle.sample_scene.specs.declared.sample.TheConstants.{MAX_NUMBER};
+ghost use Rattle.rulebook_cli.specs.Words.{IsCommand, is_another, is_word, reading, texts, request_of, sample_number, no_words, one_word, two_words, four_words, with_words};
+
+use reading::number_in;
 
 /// A command with its words, most of which name files.
 #[derive(Clone, Copy)]
@@ -50,7 +53,15 @@ pub enum Command<'a> {
         lattice: &'a str,
         certificate: &'a str,
     },
+    /// The number is at most 999,999.
+    Sample {
+        number: u32,
+    },
+    Help,
 }
+
+/// The most digits of the number of a sample scene.
+const MAX_DIGITS: usize = 6;
 
 fn is_word(word: &str) -> bool
     ensures { result ≡ is_word word.now }
@@ -75,7 +86,8 @@ fn are_words(words: &[String]) -> bool
 
 /// The one reading of the words. None where they have none.
 pub fn read_words(words: &[String]) -> Option<Command<'_>>
-    ensures { option_map request_of result ≡ reading (texts words.now) }
+    ensures request { option_map request_of result ≡ reading (texts words.now) }
+    ensures within { IfSome result IsCommand }
 {
     match words {
         [command, words @ ..] if are_words(words) => with_words(command.as_str(), words),
@@ -84,9 +96,11 @@ pub fn read_words(words: &[String]) -> Option<Command<'_>>
 }
 
 fn with_words<'a>(command: &str, words: &'a [String]) -> Option<Command<'a>>
-    ensures { option_map request_of result ≡ with_words command.now (texts words.now) }
+    ensures request { option_map request_of result ≡ with_words command.now (texts words.now) }
+    ensures within { IfSome result IsCommand }
 {
     match words {
+        [] => no_words(command),
         [a] => one_word(command, a.as_str()),
         [a, b] => two_words(command, a.as_str(), b.as_str()),
         [a, b, c, d] => four_words(command, a.as_str(), b.as_str(), c.as_str(), d.as_str()),
@@ -94,17 +108,47 @@ fn with_words<'a>(command: &str, words: &'a [String]) -> Option<Command<'a>>
     }
 }
 
+fn no_words<'a>(command: &str) -> Option<Command<'a>>
+    ensures request { option_map request_of result ≡ no_words command.now }
+    ensures within { IfSome result IsCommand }
+{
+    match command {
+        "--help" => Some(Command::Help),
+        _ => None,
+    }
+}
+
+// The number of a sample scene.
+fn sample_number(word: &str) -> Option<u32>
+    ensures value { result ≡ sample_number word.now }
+    ensures within { IfSome result (λ number. number ≤ MAX_NUMBER) }
+{
+    if word.len() > MAX_DIGITS {
+        return None;
+    }
+    match number_in(word.as_bytes()) {
+        Some(number) => Some(number as u32),
+        None => None,
+    }
+}
+
 fn one_word<'a>(command: &str, a: &'a str) -> Option<Command<'a>>
-    ensures { option_map request_of result ≡ one_word command.now a.now }
+    ensures request { option_map request_of result ≡ one_word command.now a.now }
+    ensures within { IfSome result IsCommand }
 {
     match command {
         "show" => Some(Command::Show { scenario: a }),
+        "sample" => {
+            let number = sample_number(a)?;
+            Some(Command::Sample { number })
+        }
         _ => None,
     }
 }
 
 fn two_words<'a>(command: &str, a: &'a str, b: &'a str) -> Option<Command<'a>>
-    ensures { option_map request_of result ≡ two_words command.now a.now b.now }
+    ensures request { option_map request_of result ≡ two_words command.now a.now b.now }
+    ensures within { IfSome result IsCommand }
 {
     match command {
         "pick" => Some(Command::Pick { book: a, table: b }),
@@ -135,7 +179,8 @@ fn four_words<'a>(
     c: &'a str,
     d: &'a str,
 ) -> Option<Command<'a>>
-    ensures { option_map request_of result ≡ four_words command.now a.now b.now c.now d.now }
+    ensures request { option_map request_of result ≡ four_words command.now a.now b.now c.now d.now }
+    ensures within { IfSome result IsCommand }
 {
     match command {
         "walk" => Some(Command::Walk {

@@ -1,0 +1,19 @@
+use Rattle.std.proofs.Common.{subst}
+use Rattle.label_search.specs.Found.{IfTooMany}
+use Rattle.rulebook_order.specs.PairOrder.{order_of}
+use Rattle.violation_measures.specs.Scenes.{features_of}
+use Rattle.violation_measures.specs.SceneSources.{scene_of as source_scene}
+use Rattle.maneuver_lattice.specs.Moves.{scene_of}
+use Rattle.rulebook_cli.specs.BoundScenes.{graph_at}
+use Rattle.rulebook_cli.proofs.Planned.{many_stops, too_many}
+use Rattle.rulebook_cli.proofs.Shown.{graph_same}
+use Rattle.rulebook_cli.proofs.sampling.sample_bound.Goals as goal
+
+pub returns-in-Err-TooManyLabels : goal.returns-in-Err-TooManyLabels
+returns-in-Err-TooManyLabels c =
+    let files = c.args.scene.now.files in
+    let g = c.graph_of-graph.result in
+    let is = c.graph_of-graph.ensures in
+    let same = graph_same files (scene_of g.moves) (features_of (source_scene g.source.now)) g.bound.now is.scene_is is.features_are is.bound_is in
+    let many = subst (IfTooMany _) c.in-Err-TooManyLabels.field-0-is c.in-Err-TooManyLabels.ensures.many in
+    many_stops files c.end_as.result (too_many files (order_of c.order_by-order.result) c.order_by-order.ensures (graph_at (scene_of g.moves) g.source.now g.bound.now) same many) c.end_as.ensures
