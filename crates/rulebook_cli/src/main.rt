@@ -16,6 +16,8 @@ mod comparing;
 mod derivation_tests;
 mod derivations;
 mod inputs;
+#[cfg(test)]
+mod judge_tests;
 mod laws;
 mod picking;
 mod planning;
