@@ -40,8 +40,8 @@ def many_choices(horizon):
     return one_lane(horizon), "rule a\npart a 1 overlaps\n", lattice(horizon, [("c", 10000)], step)
 
 
-def motorway(number):
-    """Three lanes and forty cars, by a plain sequence of pseudo-random numbers."""
+def motorway(number, last=30, end=500):
+    """Three lanes up to an end, and forty cars up to a last tick, by a plain sequence of pseudo-random numbers."""
     state = number
 
     def draw():
@@ -49,7 +49,7 @@ def motorway(number):
         state = (1103515245 * state + 12345) % 2**31
         return state // 65536
 
-    inside = "".join(LANE.format(id=k, a=-50, b=500, left=4 * (k - 1) + 2, right=4 * (k - 1) - 2) for k in (1, 2, 3))
+    inside = "".join(LANE.format(id=k, a=-50, b=end, left=4 * (k - 1) + 2, right=4 * (k - 1) - 2) for k in (1, 2, 3))
     for car in range(40):
         a, b, d = draw(), draw(), draw()
         y, x, v = 4 * (a % 3), 10 + b % 400, 4 + d % 8
@@ -57,7 +57,7 @@ def motorway(number):
         def pose(tick):
             return f"<position><point><x>{x + v * tick / 5:.1f}</x><y>{y}</y></point></position><orientation><exact>0</exact></orientation><time><exact>{tick}</exact></time><velocity><exact>{v}</exact></velocity>"
 
-        states = "".join(f"<state>{pose(tick)}</state>" for tick in range(1, 31))
+        states = "".join(f"<state>{pose(tick)}</state>" for tick in range(1, last + 1))
         shape = "<shape><rectangle><length>4.5</length><width>1.8</width></rectangle></shape>"
         inside += f'<dynamicObstacle id="{100 + car}">{shape}<initialState>{pose(0)}</initialState><trajectory>{states}</trajectory></dynamicObstacle>\n'
     classes = [("slow", 5000), ("mid", 10000), ("fast", 15000)]
@@ -77,15 +77,19 @@ def motorway(number):
     return document(0.2, inside, 4, 30), book, lattice(30, classes, maneuvers)
 
 
-SCENES = [
-    ("doubling", doubling(14), "two choices, 32,767 undominated pairs, 8,192 answers"),
-    ("choices", many_choices(56), "32 choices, 49,533 undominated pairs, 1,585,024 links but for the last tick"),
-    ("motorway", motorway(7), "a motorway with 40 cars and 13 maneuvers"),
-]
+def scenes():
+    yield "doubling", doubling(14), "two choices, 32,767 undominated pairs, 8,192 answers"
+    yield "choices", many_choices(56), "32 choices, 49,533 undominated pairs, 1,585,024 links but for the last tick"
+    yield "motorway", motorway(7), "a motorway with 40 cars and 13 maneuvers"
 
-folder = Path(sys.argv[1])
-for name, (scenario, book, maneuvers), what in SCENES:
-    (folder / f"{name}.xml").write_text(scenario)
-    (folder / f"{name}.book").write_text(book)
-    (folder / f"{name}.lattice").write_text(maneuvers)
-    print(name, what)
+
+def write(folder, name, texts):
+    """The three files of a scene."""
+    for ending, text in zip(("xml", "book", "lattice"), texts):
+        (Path(folder) / f"{name}.{ending}").write_text(text)
+
+
+if __name__ == "__main__":
+    for name, texts, what in scenes():
+        write(sys.argv[1], name, texts)
+        print(name, what)

@@ -97,7 +97,11 @@ fn refuse_binding(alloc: Global, rules: &[Rule], fault: BindFault) -> Stop
 }
 
 /// The book, bound to the features of the scene.
-pub fn test_binding(alloc: Global, files: &SceneFiles, source: &SceneSource<'_>) -> Result<Bound, Stop>
+pub fn test_binding(
+    alloc: Global,
+    files: &SceneFiles,
+    source: &SceneSource<'_>,
+) -> Result<Bound, Stop>
     requires files { AreSceneFiles files.now }
     requires source { features_of (source_scene source.now) ≡ features files.now }
     ensures tests { Tests (λ _. tt) role.Book (binding_told files.now) result }

@@ -17,6 +17,8 @@ mod derivation_tests;
 mod derivations;
 mod helping;
 mod inputs;
+#[cfg(test)]
+mod judge_tests;
 mod laws;
 mod picking;
 mod planning;

@@ -136,11 +136,7 @@ fn push_pairs(
 }
 
 // The line of the rules' names, and what was judged.
-fn judgement_text(
-    alloc: Global,
-    rules: &[Rule],
-    judged: &Judgement,
-) -> Result<Vec<u8>, AllocError>
+fn judgement_text(alloc: Global, rules: &[Rule], judged: &Judgement) -> Result<Vec<u8>, AllocError>
     requires { All (IsPlaced (length judged.now.runs) (length rules.now)) judged.now.pairs }
     ensures { IfOk result (λ text. text.items ≡ rules_line rules.now ++ (flat_map judged_line judged.now.runs ++ flat_map (told_pair rules.now judged.now.runs) judged.now.pairs)) }
 {
