@@ -2,6 +2,7 @@ ghost use Rattle.std.specs.Prelude.{◌≡◌, ◌≢◌, ◌≤◌, ◌<◌, �
 ghost use Rattle.std.specs.Bool.{OnFalse};
 ghost use Rattle.preorder.specs.Name.{is_name};
 ghost use Rattle.reading.specs.Reading.{Gives};
+ghost use Rattle.violation_measures.specs.declared.scene_source.TheConstants.{MAX_MANEUVERS};
 ghost use Rattle.trajectory_judge.specs.Faults.{is_memory};
 ghost use Rattle.trajectory_judge.specs.Records.{AreRecords, AreRecordsOf, AreRuns, IsCut, IsFirstFaultyRow, IsRecordedStep, beginning, going_on, is_next, is_of_file, last_of, read_rows, records_of, row_step, with_step};
 ghost use Rattle.trajectory_judge.specs.Rows.{COLUMNS, GotRow, IsOpen, row_of, row_width, rows_left};
@@ -134,7 +135,7 @@ impl Records {
         rows: &Rows<'_>,
         maneuvers: &[Name],
     ) -> Result<(), RecordFault>
-        requires few { length maneuvers.now ≤ 2048 }
+        requires few { length maneuvers.now ≤ MAX_MANEUVERS }
         requires sound { AreRuns (length maneuvers.now) self.old.runs }
         requires width { length (row_of rows.now) ≡ COLUMNS }
         ensures exact { Gives is_memory (λ _. self.new) result (row_step maneuvers.now row (row_of rows.now) self.old) }
@@ -151,7 +152,7 @@ impl Records {
         rows: &mut Rows<'_>,
         maneuvers: &[Name],
     ) -> Result<(), RecordFault>
-        requires few { length maneuvers.now ≤ 2048 }
+        requires few { length maneuvers.now ≤ MAX_MANEUVERS }
         requires sound { AreRuns (length maneuvers.now) self.old.runs }
         requires open { IsOpen rows.old }
         requires width { row_width rows.old ≡ Some COLUMNS }
@@ -171,7 +172,7 @@ impl Records {
 // The recordings by their definition: what else is promised of them follows from that.
 #[tactic(auto, unfolding(crate::specs::Records::records_of))]
 fn records_of(alloc: Global, bytes: &[u8], maneuvers: &[Name]) -> Result<Records, RecordFault>
-    requires { length maneuvers.now ≤ 2048 }
+    requires { length maneuvers.now ≤ MAX_MANEUVERS }
     ensures exact { Gives is_memory (λ records. records) result (records_of maneuvers.now bytes.now) }
     ensures sound { IfOk result (AreRecords (length maneuvers.now)) }
 {
@@ -187,9 +188,9 @@ fn records_of(alloc: Global, bytes: &[u8], maneuvers: &[Name]) -> Result<Records
 }
 
 /// The recordings of a file's bytes, or the first fault. A step's maneuver is the place of its name among these, counted
-/// from 0. There are at most 2,048 names, all different.
+/// from 0. There are at most 2,048 names; of two that are equal the first counts.
 pub fn read_records(alloc: Global, bytes: &[u8], maneuvers: &[Name]) -> Result<Records, RecordFault>
-    requires { length maneuvers.now ≤ 2048 }
+    requires { length maneuvers.now ≤ MAX_MANEUVERS }
     ensures exact { Gives is_memory (λ records. records) result (records_of maneuvers.now bytes.now) }
     ensures sound { IfOk result (AreRecords (length maneuvers.now)) }
 
