@@ -10,5 +10,6 @@ pub mod FirstFault
 pub mod Kept
 pub mod Added
 pub mod FormulaLaws
+pub mod NotedLaws
 pub mod MeasuredLaws
 pub mod AmountLaws

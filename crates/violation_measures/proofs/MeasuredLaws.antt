@@ -1,10 +1,10 @@
 -- The features that are measured once a step are known, few, and stand at their places.
-use Rattle.std.proofs.Common.{◌≡◌, ℕ, ◌<◌, ◌≤◌, ◌==◌, Bool, true, false, cond, ℤ, List, [], ◌∷◌, ◌++◌, length, get_or, length-append, refl, sym, ap, subst, ◌∙◌, arith, Option, None, Some}
-use Rattle.std.specs.Prelude.{All, nat_le, ◌||◌}
-use Rattle.std.specs.List.{fold, flat_map, list_any}
-use Rattle.std.proofs.lemmas.Bool.Decides.{nat_tests, Decides-eqb}
+use Rattle.std.proofs.Common.{◌≡◌, ℕ, ◌≤◌, ◌==◌, Bool, true, false, cond, ℤ, List, [], ◌∷◌, ◌++◌, length, get_or, refl, sym, ap, subst, ◌∙◌, arith, Option, None, Some}
+use Rattle.std.specs.Prelude.{All}
+use Rattle.std.specs.List.{flat_map}
+use Rattle.std.proofs.lemmas.Bool.Decides.{Decides-eqb}
 use Rattle.std.proofs.lemmas.List.Concat.{flat_map-cons}
-use Rattle.std.proofs.lemmas.List.Elements.{All-nil, All-cons, All-head, All-tail, All-append}
+use Rattle.std.proofs.lemmas.List.Elements.{All-nil, All-cons, All-append}
 use Rattle.std.proofs.lemmas.List.Quantifiers.{position-Some}
 use Rattle.expressions.specs.declared.tree.Argument.{Argument}
 use Rattle.expressions.specs.declared.tree.Expr.{Expr}
@@ -13,37 +13,16 @@ use Rattle.expressions.specs.declared.tree.Expr.TheOpen.{Expr-F}
 use Rattle.expressions.specs.declared.tree.Expr.TheFolds.{fold-roll-Expr, ind-Expr, map-Expr}
 use Rattle.rule_language.specs.declared.book.Rule.{Rule}
 use Rattle.rule_language.specs.declared.part.Part.{Part}
-use Rattle.violation_measures.specs.Measured.{number_found, numbers_step, numbers, is_of_kind, part_numbers, rule_numbers, noted, used_by, measured_at, IsMeasured}
+use Rattle.violation_measures.specs.Measured.{number_found, numbers_step, numbers, is_of_kind, part_numbers, rule_numbers, used_by, measured_at, IsMeasured}
 use Rattle.violation_measures.specs.Sources.{Features, IsKnown, at_step, value_found}
 use Rattle.violation_measures.specs.declared.step.Step.{Step}
 use Rattle.violation_measures.specs.declared.used.TheConstants.{MAX_MEASURED}
 use Rattle.violation_measures.proofs.FormulaLaws.{Stands}
-
--- ---- they are few
-
-few_noted : (b : Bool) (used : List ℕ) (n : ℕ) → nat_le MAX_MEASURED (length used) ≡ b → (c : Bool) → length used ≤ MAX_MEASURED → length (cond (b || c) used (used ++ n ∷ [])) ≤ MAX_MEASURED
-few_noted true used n e c few = few
-few_noted false used n e true few = few
-few_noted false used n e false few =
-    let less : length used < MAX_MEASURED = grind (arith, nat_tests, e) in
-    omega (arith, length-append used (n ∷ []), less)
-
-few_folded : (ns used : List ℕ) → length used ≤ MAX_MEASURED → length (fold noted used ns) ≤ MAX_MEASURED
-few_folded [] used few = few
-few_folded (n ∷ ns) used few = few_folded ns (noted used n) (few_noted (nat_le MAX_MEASURED (length used)) used n refl (list_any (λ m. m == n) used) few)
+use Rattle.violation_measures.proofs.NotedLaws.{few_folded, all_folded}
 
 -- ---- they are known
 
 module _ (f : Features) where
-  all_noted : (b : Bool) (used : List ℕ) (n : ℕ) → All (IsKnown f) used → IsKnown f n → All (IsKnown f) (cond b used (used ++ n ∷ []))
-  all_noted true used n h k = h
-  all_noted false used n h k = All-append (IsKnown f) used (n ∷ []) h (All-cons (IsKnown f) n [] k (All-nil (IsKnown f)))
-
-  all_folded : (ns used : List ℕ) → All (IsKnown f) used → All (IsKnown f) ns → All (IsKnown f) (fold noted used ns)
-  all_folded [] used h k = h
-  all_folded (n ∷ ns) used h k =
-      all_folded ns (noted used n) (all_noted (nat_le MAX_MEASURED (length used) || list_any (λ m. m == n) used) used n h (All-head (IsKnown f) n ns k)) (All-tail (IsKnown f) n ns k)
-
   all_over : {X : Type 0} (g : X → List ℕ) → ((x : X) → All (IsKnown f) (g x)) → (xs : List X) → All (IsKnown f) (flat_map g xs)
   all_over g each [] = All-nil (IsKnown f)
   all_over g each (x ∷ xs) = subst (λ (ns : List ℕ). All (IsKnown f) ns) (sym (flat_map-cons g x xs)) (All-append (IsKnown f) (g x) (flat_map g xs) (each x) (all_over g each xs))
@@ -91,7 +70,7 @@ module _ (f : Features) where
   pub used_known : (at_end : Bool) (rules : List Rule) → All (IsKnown f) (used_by f.find at_end rules)
   unfolding used_by
   used_known at_end rules =
-      all_folded (rule_numbers f.find at_end rules) [] (All-nil (IsKnown f))
+      all_folded (IsKnown f) (rule_numbers f.find at_end rules) [] (All-nil (IsKnown f))
       (all_over (λ (rule : Rule). part_numbers f.find at_end rule.parts) (λ rule. all_over (λ (part : Part). cond (is_of_kind at_end part) (numbers f.find part.expr) []) (λ part. known_if (is_of_kind at_end part) part.expr) rule.parts) rules)
 
   pub used_few : (at_end : Bool) (rules : List Rule) → length (used_by f.find at_end rules) ≤ MAX_MEASURED

@@ -399,6 +399,46 @@ fn a_feature_is_known_by_its_name_and_argument(rt: HostRuntime) -> Result<(), Fa
     Ok(())
 }
 
+// At (0, 0), and then driving by the first maneuver, 5.5 m further and 1.5 m to the left.
+fn drive(alloc: Global) -> Result<List<Step>, NoMemory>
+    ensures few { IfOk result (λ steps. length steps ≡ 2) }
+    ensures each { IfOk result (All IsStep) }
+{
+    let mut steps = List::new(alloc);
+    steps.push(step(0, 0, 0, false, None))?;
+    steps.push(step(3, 55_000, 15_000, false, Some(0)))?;
+    Ok(steps)
+}
+
+#[test]
+fn a_drive_amounts_to_its_steps_and_its_end(rt: HostRuntime) -> Result<(), Fail> {
+    let alloc = rt.alloc();
+    let scenario = scenario(alloc)?;
+    let network = Network::new(alloc, &scenario)?;
+    let traffic = Traffic::new(alloc, &scenario)?;
+    let maneuvers = [Name::new(b"p").ok_or("a name")?];
+    let source = SceneSource::new(&network, &traffic, 45_000, 18_000, &maneuvers);
+    let rows = [
+        ("part a 1 overlaps", 2),
+        ("part a 1 off_road", 2),
+        ("part a 1 max(0, speed - 13900)", 2 * 1_100),
+        ("part a 1 abs(accel)", 2 * 1_000),
+        ("part a 1 turn", 2 * 300_000),
+        ("final a 1 abs(accel) + abs(turn)", 0),
+        ("final a 5 headway", 5 * 5_000),
+        ("part a 1 maneuver(p)", 1),
+        ("final a 1 maneuver(p)", 0),
+        ("part a 1 in_lanelet(1)\nfinal a 2 tick", 2 + 2 * 3),
+    ];
+    let steps = drive(alloc)?;
+    for (parts, expected) in rows {
+        let book = format!(in alloc; "rule a\n{parts}")?;
+        let vector = violations(alloc, &source, &book, steps.as_slice())?;
+        assert_eq!(rt; vector.as_slice(), [expected].as_slice(), "{parts}");
+    }
+    Ok(())
+}
+
 #[test]
 fn a_part_counts_its_value_cut_and_weighted(rt: HostRuntime) -> Result<(), Fail> {
     let alloc = rt.alloc();
