@@ -9,3 +9,5 @@ mod JudgedRuns
 mod Chains
 mod Measuring
 mod WhatRowsSay
+mod OnlyReading
+mod FirstRow

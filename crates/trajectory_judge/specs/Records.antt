@@ -1,6 +1,6 @@
 -- The recordings of a file, or its first fault. Rows that follow one another under one name are a recording.
 -- This project's own.
-use Rattle.std.specs.Prelude.{◌≡◌, ◌≢◌, ℕ, ◌+◌, ◌-◌, ◌<◌, ◌≤◌, ◌++◌, Bool, false, not, List, [], ◌∷◌, length, map, All, Option, Some, None, IfSome, Result, Ok, Err, ◌==◌, nat_le, if◌then◌else◌, IsTrue, slice_get, slice_index_or, slice_set, unsigned_abs}
+use Rattle.std.specs.Prelude.{◌≡◌, ◌≢◌, ℕ, ◌+◌, ◌-◌, ◌<◌, ◌≤◌, ◌++◌, Bool, true, false, not, List, [], ◌∷◌, length, map, All, Option, Some, None, IfSome, Result, Ok, Err, ◌==◌, nat_le, if◌then◌else◌, IsTrue, slice_get, slice_index_or, slice_set, unsigned_abs}
 use Rattle.std.specs.Str.{bytes_eq}
 use Rattle.preorder.specs.Name.{is_name}
 use Rattle.reading.specs.Reading.{◌>>=◌}
@@ -9,7 +9,7 @@ use Rattle.violation_measures.specs.declared.step.Step.{Step}
 use Rattle.trajectory_judge.specs.Fields.{said}
 use Rattle.trajectory_judge.specs.Rows.{COLUMNS, Row, rows_left, rows_of, under_header}
 use Rattle.trajectory_judge.specs.declared.fault.RecordFault.{RecordFault}
-use Rattle.trajectory_judge.specs.declared.fault.RecordFault.TheVariants.{Csv, TickGap, DuplicateName, TooMany, Empty}
+use Rattle.trajectory_judge.specs.declared.fault.RecordFault.TheVariants.{WrongHeader, Csv, TickGap, DuplicateName, TooMany, Empty, NoMemory}
 use Rattle.trajectory_judge.specs.declared.limits.TheConstants.{MAX_RECORDINGS, MAX_RECORDED_STEPS, MAX_RECORDED_TICK, MAX_RECORDED_COORDINATE, MAX_RECORDED_HEADING, MAX_RECORDED_SPEED, MAX_RECORDED_TURN}
 use Rattle.trajectory_judge.specs.declared.records.Recording.{Recording}
 use Rattle.trajectory_judge.specs.declared.records.Records.{Records}
@@ -130,3 +130,20 @@ pub record AreRecordsOf (maneuvers : List (List ℕ)) (bytes : List ℕ) (record
   pub header : under_header (rows_of bytes) ≡ Ok rows
   pub say : each_said maneuvers 1 rows ≡ Ok (all_steps records.runs)
   pub well_formed : AreRecords (length maneuvers) records
+
+-- the faults that are no row's
+abbrev pub is_of_file : RecordFault → Bool
+is_of_file WrongHeader = true
+is_of_file Empty = true
+is_of_file NoMemory = true
+is_of_file _ = false
+
+-- the first faulty row of a file: the rows before it were all read, and then it was refused, by its number and what was read so far
+pub record IsFirstFaultyRow (maneuvers : List (List ℕ)) (bytes : List ℕ) (fault : RecordFault) : Type 0 where
+  pub before : List Row
+  pub row : Row
+  pub after : List Row
+  pub state : Records
+  pub cut : under_header (rows_of bytes) ≡ Ok (before ++ row ∷ after)
+  pub fine : read_rows (row_step maneuvers) 1 before no_runs ≡ Ok state
+  pub refused : row_step maneuvers (1 + length before) row state ≡ Err fault

@@ -3,6 +3,7 @@ ghost use Rattle.std.specs.List.{position};
 ghost use Rattle.std.specs.Str.{bytes_eq};
 ghost use Rattle.preorder.specs.Name.{is_name};
 ghost use Rattle.reading.specs.Reading.{Gives};
+ghost use Rattle.violation_measures.specs.declared.scene_source.TheConstants.{MAX_MANEUVERS};
 ghost use Rattle.trajectory_judge.specs.Faults.{is_memory};
 ghost use Rattle.trajectory_judge.specs.Fields.{name_in, measure, tick_in, drive_in, maneuver_in, said_by, said};
 ghost use Rattle.trajectory_judge.specs.Records.{IsDrive, IsRecordedStep};
@@ -105,7 +106,7 @@ fn place_of(maneuvers: &[Name], text: &[u8]) -> Option<usize>
 // None where the field is empty.
 #[tactic(auto, unfolding(crate::specs::Fields::maneuver_in))]
 fn maneuver_in(row: usize, maneuvers: &[Name], text: &[u8]) -> Result<Option<u32>, RecordFault>
-    requires { length maneuvers.now ≤ 2048 }
+    requires { length maneuvers.now ≤ MAX_MANEUVERS }
     ensures exact { Gives is_memory (λ m. m) result (maneuver_in row maneuvers.now text.now) }
     ensures sound { IfOk result (λ m. IfSome m (λ i. i < length maneuvers.now)) }
 {
@@ -125,7 +126,7 @@ pub fn read_fields(
     fields: &Fields<'_>,
     maneuvers: &[Name],
 ) -> Result<(Name, Step), RecordFault>
-    requires { length maneuvers.now ≤ 2048 }
+    requires { length maneuvers.now ≤ MAX_MANEUVERS }
     ensures exact { Gives is_memory (λ p. p) result (said maneuvers.now row (columns fields.now)) }
     ensures name { IfOk result (λ p. IsTrue (is_name p.0)) }
     ensures step { IfOk result (λ p. IsRecordedStep (length maneuvers.now) p.1) }

@@ -1,9 +1,10 @@
-ghost use Rattle.std.specs.Prelude.{◌≡◌, ◌≢◌, ◌≤◌, ◌<◌, ◌+◌, ◌^◌, [], List as Items, length, IfOk, IfErr, OnOk, IsTrue, Some, None, true, false, ℕ, ◌∷◌};
+ghost use Rattle.std.specs.Prelude.{◌≡◌, ◌≢◌, ◌≤◌, ◌<◌, ◌+◌, ◌^◌, [], List as Items, length, IfOk, IfErr, OnOk, IsTrue, Ok, Some, None, true, false, ℕ, ◌∷◌};
 ghost use Rattle.std.specs.Bool.{OnFalse};
 ghost use Rattle.preorder.specs.Name.{is_name};
 ghost use Rattle.reading.specs.Reading.{Gives};
+ghost use Rattle.violation_measures.specs.declared.scene_source.TheConstants.{MAX_MANEUVERS};
 ghost use Rattle.trajectory_judge.specs.Faults.{is_memory};
-ghost use Rattle.trajectory_judge.specs.Records.{AreRecords, AreRuns, IsCut, IsRecordedStep, beginning, going_on, is_next, last_of, read_rows, records_of, row_step, with_step};
+ghost use Rattle.trajectory_judge.specs.Records.{AreRecords, AreRecordsOf, AreRuns, IsCut, IsFirstFaultyRow, IsRecordedStep, beginning, going_on, is_next, is_of_file, last_of, read_rows, records_of, row_step, with_step};
 ghost use Rattle.trajectory_judge.specs.Rows.{COLUMNS, GotRow, IsOpen, row_of, row_width, rows_left};
 
 use crate::fault::RecordFault;
@@ -134,7 +135,7 @@ impl Records {
         rows: &Rows<'_>,
         maneuvers: &[Name],
     ) -> Result<(), RecordFault>
-        requires few { length maneuvers.now ≤ 2048 }
+        requires few { length maneuvers.now ≤ MAX_MANEUVERS }
         requires sound { AreRuns (length maneuvers.now) self.old.runs }
         requires width { length (row_of rows.now) ≡ COLUMNS }
         ensures exact { Gives is_memory (λ _. self.new) result (row_step maneuvers.now row (row_of rows.now) self.old) }
@@ -151,7 +152,7 @@ impl Records {
         rows: &mut Rows<'_>,
         maneuvers: &[Name],
     ) -> Result<(), RecordFault>
-        requires few { length maneuvers.now ≤ 2048 }
+        requires few { length maneuvers.now ≤ MAX_MANEUVERS }
         requires sound { AreRuns (length maneuvers.now) self.old.runs }
         requires open { IsOpen rows.old }
         requires width { row_width rows.old ≡ Some COLUMNS }
@@ -168,11 +169,10 @@ impl Records {
     }
 }
 
-/// The recordings of a file's bytes, or the first fault. A step's maneuver is the place of its name among these, counted
-/// from 0. There are at most 2,048 names, all different.
+// The recordings by their definition: what else is promised of them follows from that.
 #[tactic(auto, unfolding(crate::specs::Records::records_of))]
-pub fn read_records(alloc: Global, bytes: &[u8], maneuvers: &[Name]) -> Result<Records, RecordFault>
-    requires { length maneuvers.now ≤ 2048 }
+fn records_of(alloc: Global, bytes: &[u8], maneuvers: &[Name]) -> Result<Records, RecordFault>
+    requires { length maneuvers.now ≤ MAX_MANEUVERS }
     ensures exact { Gives is_memory (λ records. records) result (records_of maneuvers.now bytes.now) }
     ensures sound { IfOk result (AreRecords (length maneuvers.now)) }
 {
@@ -185,4 +185,21 @@ pub fn read_records(alloc: Global, bytes: &[u8], maneuvers: &[Name]) -> Result<R
         return Err(RecordFault::Empty);
     }
     Ok(records)
+}
+
+/// The recordings of a file's bytes, or the first fault. A step's maneuver is the place of its name among these, counted
+/// from 0. There are at most 2,048 names; of two that are equal the first counts.
+pub fn read_records(alloc: Global, bytes: &[u8], maneuvers: &[Name]) -> Result<Records, RecordFault>
+    requires { length maneuvers.now ≤ MAX_MANEUVERS }
+    ensures exact { Gives is_memory (λ records. records) result (records_of maneuvers.now bytes.now) }
+    ensures sound { IfOk result (AreRecords (length maneuvers.now)) }
+
+    // What is read are well-formed recordings whose steps are what the rows say, and only such are read: what is refused has none.
+    ensures read { IfOk result (AreRecordsOf maneuvers.now bytes.now) }
+    ensures only { (records : Records) → AreRecordsOf maneuvers.now bytes.now records → Gives is_memory (λ read. read) result (Ok records) }
+
+    // A row's fault is that of the first faulty row: all rows before it were read.
+    ensures first_fault { IfErr result (λ fault. OnFalse (is_of_file fault) (IsFirstFaultyRow maneuvers.now bytes.now fault)) }
+{
+    records_of(alloc, bytes, maneuvers)
 }

@@ -57,11 +57,11 @@ fn is_header(fields: &Fields<'_>) -> bool
 }
 
 /// The field at a place.
-fn field(record: &ByteRecord, place: usize) -> &[u8]
-    requires { place < length (fields_of record.now) }
-    ensures { field_at (fields_of record.now) place ≡ Some result.now }
+fn field(row: &ByteRecord, place: usize) -> &[u8]
+    requires { place < length (fields_of row.now) }
+    ensures { field_at (fields_of row.now) place ≡ Some result.now }
 {
-    match record.get(place) {
+    match row.get(place) {
         Some(field) => field,
         None => &[],
     }

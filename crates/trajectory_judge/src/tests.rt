@@ -2,6 +2,7 @@ ghost use Rattle.std.specs.Prelude.{◌≡◌, ◌≤◌, ◌<◌, length, IfOk}
 ghost use Rattle.rule_language.specs.Books.{IsBook};
 ghost use Rattle.violation_measures.specs.Binding.{IsBoundTo};
 ghost use Rattle.violation_measures.specs.Vectors.{width};
+ghost use Rattle.violation_measures.specs.declared.scene_source.TheConstants.{MAX_MANEUVERS};
 ghost use Rattle.trajectory_judge.specs.Judgements.{AreAnyRecords};
 ghost use Rattle.trajectory_judge.specs.Driven.{driven, driven_sound, is_driven, place_of};
 
@@ -75,7 +76,7 @@ const HEADER: &str = "name,tick,x,y,heading,speed,accel,turn,maneuver\n";
 
 // The maneuvers p and q.
 fn maneuvers(alloc: Global) -> Result<List<Name>, Fail>
-    ensures { IfOk result (λ names. length names ≤ 2048) }
+    ensures { IfOk result (λ names. length names ≤ MAX_MANEUVERS) }
 {
     let mut names = List::new(alloc);
     names.push(Name::new(b"p").ok_or("a name")?)?;
