@@ -74,21 +74,21 @@ up name from to speed = changing name from to speed Up
 abbrev pub down : List ℕ → ℕ → ℕ → ℕ → Maneuver
 down name from to speed = changing name from to speed Down
 
-abbrev pub steady_ones : List Maneuver
-steady_ones =
+abbrev pub steady_maneuvers : List Maneuver
+steady_maneuvers =
     keep (codes "keep_slow") 0 5000 ∷ left (codes "left_slow") 0 5000 ∷ right (codes "right_slow") 0 5000
     ∷ keep (codes "keep_mid") 1 10000 ∷ left (codes "left_mid") 1 10000 ∷ right (codes "right_mid") 1 10000
     ∷ keep (codes "keep_fast") 2 15000 ∷ left (codes "left_fast") 2 15000 ∷ right (codes "right_fast") 2 15000 ∷ []
 
-abbrev pub faster_ones : List Maneuver
-faster_ones = up (codes "up_slow") 0 1 5000 ∷ up (codes "up_mid") 1 2 10000 ∷ []
+abbrev pub faster_maneuvers : List Maneuver
+faster_maneuvers = up (codes "up_slow") 0 1 5000 ∷ up (codes "up_mid") 1 2 10000 ∷ []
 
-abbrev pub slower_ones : List Maneuver
-slower_ones = down (codes "down_mid") 1 0 10000 ∷ down (codes "down_fast") 2 1 15000 ∷ []
+abbrev pub slower_maneuvers : List Maneuver
+slower_maneuvers = down (codes "down_mid") 1 0 10000 ∷ down (codes "down_fast") 2 1 15000 ∷ []
 
 -- the maneuvers in their order
 unfoldable pub maneuvers : List Maneuver
-maneuvers = steady_ones ++ (faster_ones ++ slower_ones)
+maneuvers = steady_maneuvers ++ (faster_maneuvers ++ slower_maneuvers)
 
 -- a car of 4.5 m by 1.8 m, for thirty ticks
 unfoldable pub lattice : Lattice

@@ -1,6 +1,6 @@
 ghost use Rattle.std.specs.Prelude.{◌≡◌, ◌≤◌, ◌*◌, ◌^◌, ◌+ℤ◌, ◌*ℤ◌, [], ◌∷◌, ◌++◌, unsigned_abs, pos, map, IfOk, OnOk};
 ghost use Rattle.std.specs.List.{range_with_len};
-ghost use Rattle.sample_scene.specs.Maneuvers.{changing, changing_step, faster, faster_ones, keep, left, leftward, maneuvers, right, slower_ones, steady, steady_ones, steady_step};
+ghost use Rattle.sample_scene.specs.Maneuvers.{changing, changing_step, faster, faster_maneuvers, keep, left, leftward, maneuvers, right, slower_maneuvers, steady, steady_maneuvers, steady_step};
 
 use crate::literal::name;
 use maneuver_lattice::{LatticeStep, Maneuver};
@@ -197,8 +197,8 @@ fn add_steady(
 
 // The maneuvers that stay in their classes.
 #[tactic(auto, unfolding(preorder::specs::Name::is_name))]
-fn steady_ones(alloc: Global) -> Result<List<Maneuver>, NoMemory>
-    ensures { IfOk result (λ them. them ≡ steady_ones) }
+fn steady_maneuvers(alloc: Global) -> Result<List<Maneuver>, NoMemory>
+    ensures { IfOk result (λ them. them ≡ steady_maneuvers) }
 {
     let mut them = List::new(alloc);
     add_steady(
@@ -231,7 +231,7 @@ fn steady_ones(alloc: Global) -> Result<List<Maneuver>, NoMemory>
 // Adds those that lead to the next class up.
 #[tactic(auto, unfolding(preorder::specs::Name::is_name))]
 fn add_faster(alloc: Global, them: &mut List<Maneuver>) -> Result<(), NoMemory>
-    ensures { OnOk result (them.new ≡ them.old ++ faster_ones) }
+    ensures { OnOk result (them.new ≡ them.old ++ faster_maneuvers) }
 {
     them.push(changing(alloc, name(b"up_slow"), SLOW, MID, Change::Up)?)?;
     them.push(changing(alloc, name(b"up_mid"), MID, FAST, Change::Up)?)?;
@@ -241,7 +241,7 @@ fn add_faster(alloc: Global, them: &mut List<Maneuver>) -> Result<(), NoMemory>
 // Adds those that lead to the next class down.
 #[tactic(auto, unfolding(preorder::specs::Name::is_name))]
 fn add_slower(alloc: Global, them: &mut List<Maneuver>) -> Result<(), NoMemory>
-    ensures { OnOk result (them.new ≡ them.old ++ slower_ones) }
+    ensures { OnOk result (them.new ≡ them.old ++ slower_maneuvers) }
 {
     them.push(changing(alloc, name(b"down_mid"), MID, SLOW, Change::Down)?)?;
     them.push(changing(alloc, name(b"down_fast"), FAST, MID, Change::Down)?)?;
@@ -253,7 +253,7 @@ fn add_slower(alloc: Global, them: &mut List<Maneuver>) -> Result<(), NoMemory>
 pub fn maneuvers(alloc: Global) -> Result<List<Maneuver>, NoMemory>
     ensures { IfOk result (λ them. them ≡ maneuvers) }
 {
-    let mut them = steady_ones(alloc)?;
+    let mut them = steady_maneuvers(alloc)?;
     add_faster(alloc, &mut them)?;
     add_slower(alloc, &mut them)?;
     Ok(them)

@@ -4,6 +4,8 @@
 pub mod fan;
 pub mod last_first;
 pub mod place;
+#[cfg(test)]
+mod sample_tests;
 pub mod table;
 #[cfg(test)]
 mod tests;
