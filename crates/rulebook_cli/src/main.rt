@@ -23,6 +23,8 @@ mod laws;
 mod picking;
 mod planning;
 mod recordings;
+#[cfg(test)]
+mod sample_tests;
 mod sampling;
 mod scenario_input;
 mod scene_files;

@@ -176,7 +176,6 @@ fn words_with_no_reading_are_told_so(rt: HostRuntime) -> Result<(), Fail> {
         &["pick", "b", ""],
         &["pick", "-b", "t"],
         &["picks", "b", "t"],
-        &["--help"],
         &["show"],
         &["show", "b", "t"],
     ];

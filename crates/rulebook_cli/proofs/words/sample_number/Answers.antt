@@ -5,7 +5,7 @@ use Rattle.reading.specs.declared.words.TheConstants.{PAST}
 use Rattle.rulebook_cli.proofs.SampleWords.{number_is, small_number}
 use Rattle.rulebook_cli.proofs.words.sample_number.Goals as goal
 
-abbrev found : (c : goal.In-Some) → (length c.args.word.now ≤ 6) × ((c.in-Some.number < 1000000) × (number_of c.args.word.now ≡ Some c.in-Some.number))
+found : (c : goal.In-Some) → (length c.args.word.now ≤ 6) × ((c.in-Some.number < 1000000) × (number_of c.args.word.now ≡ Some c.in-Some.number))
 found c =
     let short : length c.args.word.now ≤ 6 = search rules in
     (short, small_number c.args.word.now c.in-Some.number short (sym c.in-Some.is ∙ rw c.as_bytes.ensures.value at c.number_in.ensures))
