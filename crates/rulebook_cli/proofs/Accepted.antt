@@ -1,12 +1,10 @@
 -- `check` accepts the certificate that `plan` saves.
-use Rattle.std.proofs.Common.{◌≡◌, ◌≢◌, ℕ, ◌<◌, ◌≤◌, Bool, true, false, ◌&&◌, List, [], ◌∷◌, ◌++◌, length, Option, None, Some, Result, Ok, Err, refl, sym, ap, subst, ◌∙◌, inl, inr, arith}
+use Rattle.std.proofs.Common.{◌≡◌, ℕ, ◌≤◌, Bool, true, false, ◌&&◌, List, [], ◌∷◌, ◌++◌, length, Option, None, Some, Result, Ok, Err, refl, sym, ap, subst, ◌∙◌, inl, inr, arith}
 use Rattle.std.specs.Prelude.{◌⊎◌, not, nat_lt, cond, codes, if◌then◌else◌}
-use Rattle.std.specs.Cmp.Lexicographic.{slice_cmp}
 use Rattle.std.specs.FinMap.{get, insert, get-insert}
 use Rattle.std.specs.List.{list_all}
-use Rattle.std.specs.Ordering.{nat_cmp}
 use Rattle.std.specs.Str.{bytes_eq}
-use Rattle.std.proofs.lemmas.Bool.{cases_Bool, and_parts}
+use Rattle.std.proofs.lemmas.Bool.{and_parts}
 use Rattle.std.proofs.lemmas.Cmp.{nat_list_cmp_total}
 use Rattle.std.proofs.lemmas.Map.Text.{is_eq-slice_cmp}
 use Rattle.std.proofs.lemmas.Slice.Eq.{bytes_eq-Decides}
@@ -14,26 +12,24 @@ use Rattle.outside_io.specs.Outside.{Files}
 use Rattle.outside_io.specs.declared.TheConstants.{MAX_FILE}
 use Rattle.rule_language.specs.declared.book.Book.{Book}
 use Rattle.scenario_model.specs.declared.scenario.Scenario.{Scenario}
-use Rattle.maneuver_lattice.specs.declared.lattice.Lattice.{Lattice}
 use Rattle.certificate_text.specs.ReadText.{certificate_in}
 use Rattle.certificate_text.specs.declared.certificate.Certificate.{Certificate}
 use Rattle.certificate_text.specs.declared.fault.CertFault.{CertFault}
 use Rattle.certificate_text.proofs.WrittenWhole.{read_again}
 use Rattle.command_outcome.specs.declared.outcome.Role.{Role}
 use Rattle.command_outcome.specs.declared.outcome.Role.TheVariants as role
-use Rattle.command_outcome.specs.declared.outcome.Status.{Status}
 use Rattle.command_outcome.specs.declared.outcome.Status.TheVariants as status
-use Rattle.command_outcome.specs.Inputs.{Halt, absent, refusal, and_then, bytes_as, gives, held_as, in_role, told}
+use Rattle.command_outcome.specs.Inputs.{Halt, absent, refusal, and_then, gives, held_as, in_role, told}
 use Rattle.command_outcome.specs.Outcome.{Outcome, refused_text}
 use Rattle.command_outcome.specs.Tasks.{IsDueTo, Settles}
 use Rattle.command_outcome.proofs.Serving.{outcome}
 use Rattle.rulebook_cli.specs.Asked.{task_by}
 use Rattle.rulebook_cli.specs.Certificates.{certificate_fault_text, certificate_input, certificate_read}
-use Rattle.rulebook_cli.specs.Check.{CheckMakes, check_inputs, check_task, accepted_text}
-use Rattle.rulebook_cli.specs.Inputs.{book_input, book_read}
+use Rattle.rulebook_cli.specs.Check.{CheckMakes, check_inputs, check_task}
+use Rattle.rulebook_cli.specs.Inputs.{book_read}
 use Rattle.rulebook_cli.specs.Laws.{PlansAreAccepted}
 use Rattle.rulebook_cli.specs.Plan.{IsPlanned, PlanMakes, plan_inputs, plan_task}
-use Rattle.rulebook_cli.specs.ScenarioInput.{scenario_input, scenario_read}
+use Rattle.rulebook_cli.specs.ScenarioInput.{scenario_read}
 use Rattle.rulebook_cli.specs.SceneInputs.{bound_scene, lattice_read, scene_files, with_book, with_lattice}
 use Rattle.rulebook_cli.specs.Words.{Request, plan, check, is_another, is_word, reading, with_words}
 use Rattle.rulebook_cli.specs.declared.scene_files.SceneFiles.{SceneFiles}

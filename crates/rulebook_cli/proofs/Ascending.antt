@@ -15,7 +15,6 @@ use Rattle.std.proofs.lemmas.List.Sorted.{sorted_far, IsPermutation-map}
 use Rattle.std.proofs.lemmas.Map.Keys.{IsDistinct-IsPermutation}
 use Rattle.std.proofs.lemmas.Map.Text.{is_eq-slice_cmp}
 use Rattle.std.proofs.lemmas.Slice.Eq.{bytes_eq-Decides}
-use Rattle.certificate_checker.specs.Answers.{vectors_of}
 use Rattle.certificate_checker.specs.declared.checked.Attained.{Attained}
 use Rattle.rulebook_cli.specs.Answers.{AreAscending, comes_before}
 

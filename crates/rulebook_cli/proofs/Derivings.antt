@@ -18,12 +18,12 @@ use Rattle.command_outcome.specs.declared.outcome.Status.TheVariants as status
 use Rattle.command_outcome.specs.declared.outcome.Stop.{Stop}
 use Rattle.command_outcome.specs.declared.outcome.Stop.TheVariants as stop
 use Rattle.command_outcome.specs.Ends.{Has, Serves, Shelf}
-use Rattle.command_outcome.specs.Outcome.{EndsAs, Outcome, Refuses, refused_text}
+use Rattle.command_outcome.specs.Outcome.{Outcome, Refuses, refused_text}
 use Rattle.command_outcome.specs.Tasks.{KeepsFiles}
 use Rattle.command_outcome.proofs.DueOutcomes.{same_outcome}
 use Rattle.command_outcome.proofs.Serving.{ends, made}
-use Rattle.rulebook_cli.specs.Accept.{AcceptMakes, Accepts, AcceptStops, IsAcceptance, IsNoStep, IsRefusal, IsTaken, accept_inputs, accept_task, kind_text}
-use Rattle.rulebook_cli.specs.Derive.{DeriveMakes, DerivesText, DeriveStops, IsDerivation, IsDerivedTo, IsNoScript, IsScriptRefused, derive_inputs, derive_task}
+use Rattle.rulebook_cli.specs.Accept.{AcceptMakes, Accepts, AcceptStops, IsAcceptance, IsRefusal, accept_inputs, accept_task, kind_text}
+use Rattle.rulebook_cli.specs.Derive.{DeriveMakes, DerivesText, DeriveStops, IsDerivedTo, IsScriptRefused, derive_inputs, derive_task}
 use Rattle.rulebook_cli.specs.DeriveFaults.{derive_fault_text}
 
 -- ---- before anything is written

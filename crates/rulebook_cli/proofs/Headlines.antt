@@ -1,7 +1,7 @@
 -- The due outcomes of `plan` and `check` in the words of the headline.
-use Rattle.std.proofs.Common.{◌≡◌, ℕ, List, [], ◌++◌, Option, None, Some, Result, Ok, Err, IfSome, refl, sym, ap, subst, ◌∙◌, inl, inr}
+use Rattle.std.proofs.Common.{◌≡◌, ℕ, List, [], Option, Some, Result, Ok, Err, IfSome, refl, sym, ap, subst, ◌∙◌, inl, inr}
 use Rattle.std.specs.Prelude.{codes}
-use Rattle.std.specs.FinMap.{get, insert}
+use Rattle.std.specs.FinMap.{get}
 use Rattle.outside_io.specs.Outside.{Files}
 use Rattle.certificate_text.specs.Text.{text}
 use Rattle.certificate_text.specs.declared.certificate.Certificate.{Certificate}

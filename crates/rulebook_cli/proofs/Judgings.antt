@@ -1,33 +1,29 @@
 -- What is told of recordings, and what is due to `judge`.
-use Rattle.std.proofs.Common.{◌≡◌, ◌↔◌, ℕ, zero, suc, ◌+◌, ◌<◌, ◌≤◌, List, [], ◌∷◌, ◌++◌, length, map, get_or, Result, Ok, Err, Vec, refl, sym, ap, subst, ◌∙◌, arith}
+use Rattle.std.proofs.Common.{◌≡◌, ◌↔◌, ℕ, suc, ◌<◌, ◌≤◌, List, [], ◌∷◌, ◌++◌, length, map, get_or, refl, sym, ap, subst, ◌∙◌, arith}
 use Rattle.std.specs.Prelude.{All, slice_index}
-use Rattle.std.specs.declared.alloc.Global.{Global}
 use Rattle.std.specs.List.{flat_map, range_with_len}
 use Rattle.std.proofs.Math.ListN.{get_or-map as get_or-map-default}
 use Rattle.std.proofs.lemmas.List.{get_or-map, length-map, map-append}
 use Rattle.std.proofs.lemmas.List.Elements.{All-append, All-head, All-map, All-nil, All-tail}
 use Rattle.std.proofs.lemmas.List.FromFn.{get_or-map-range_with_len, get_or-range_with_len, length-map-range_with_len, length-range_with_len}
-use Rattle.outside_io.specs.Outside.{Files}
 use Rattle.preorder.specs.Preorder.{at_least, rules_of}
 use Rattle.preorder.specs.Statements.{IsClosure}
 use Rattle.preorder.specs.declared.order.Preorder.{Preorder}
 use Rattle.preorder.specs.declared.row.Row.{Row}
 use Rattle.rule_language.specs.declared.book.Rule.{Rule}
-use Rattle.rulebook_order.specs.NoWorse.{Beats}
 use Rattle.rulebook_order.specs.NoWorseBy.{IsVerdictBy, NoWorseBy}
-use Rattle.rulebook_order.specs.NoWorseUnder.{IsAbove, IsVerdictUnder, NoWorseUnder}
+use Rattle.rulebook_order.specs.NoWorseUnder.{IsVerdictUnder, NoWorseUnder}
 use Rattle.rulebook_order.specs.Verdict.{IsVerdict}
 use Rattle.rulebook_order.specs.declared.verdict.Verdict.{Verdict}
 use Rattle.rulebook_order.specs.declared.verdict.Verdict.TheVariants.{Equal, First, Second, Neither}
 use Rattle.rulebook_order.proofs.Agree.{Beats-agree, IsVerdictBy-statements, NoWorseBy-statements}
-use Rattle.rulebook_order.proofs.Unique.{IsVerdict-unique}
-use Rattle.trajectory_judge.specs.Judgements.{HasVerdict, HaveLayers, later_pairs, measured, place_pairs, places}
-use Rattle.trajectory_judge.specs.Layers.{BeatsAt, EndsChain, IsLayer, IsLayerOf, alone, after}
+use Rattle.trajectory_judge.specs.Judgements.{HasVerdict, HaveLayers, later_pairs, place_pairs, places}
+use Rattle.trajectory_judge.specs.Layers.{BeatsAt, EndsChain, IsLayerOf, alone, after}
 use Rattle.trajectory_judge.specs.Peeling.{layers_of, names_of, vectors_of}
 use Rattle.trajectory_judge.specs.Records.{name_of}
 use Rattle.trajectory_judge.specs.declared.judged.Judged.{Judged}
 use Rattle.trajectory_judge.specs.declared.records.Records.{Records}
-use Rattle.rulebook_cli.specs.Compare.{AreLines, AreNamed, IsPairLine, pair_line, pairs}
+use Rattle.rulebook_cli.specs.Compare.{AreLines, AreNamed, IsPairLine, pairs}
 use Rattle.rulebook_cli.specs.Judge.{nobody, row_at, row_of, told_pair}
 use Rattle.rulebook_cli.specs.Judgeable.{IsPlaced}
 

@@ -4,16 +4,16 @@ use Rattle.outside_io.specs.Outside.{Files}
 use Rattle.preorder.specs.declared.row.Row.{Row}
 use Rattle.rule_language.specs.declared.book.Book.{Book}
 use Rattle.rule_language.specs.declared.table.Table.{Table}
-use Rattle.rulebook_order.specs.NoWorseUnder.{IsAbove, NoWorseUnder, IsVerdictUnder}
+use Rattle.rulebook_order.specs.NoWorseUnder.{NoWorseUnder, IsVerdictUnder}
 use Rattle.rulebook_order.specs.Front.{vectors_of}
-use Rattle.rulebook_order.proofs.Unique.{IsFront-unique, IsVerdict-unique}
+use Rattle.rulebook_order.proofs.Unique.{IsFront-unique}
 use Rattle.command_outcome.specs.Outcome.{Outcome}
 use Rattle.command_outcome.specs.Tasks.{IsDueTo, EndAlike, KeepsFiles}
 use Rattle.command_outcome.proofs.DueOutcomes.{alike, end_alike, keeps, same_outcome}
 use Rattle.rulebook_cli.specs.Words.{Request, pick, compare, show, walk, accept, derive, judge, plan, check, sample, help, reading}
 use Rattle.rulebook_cli.specs.Asked.{task_by, task_of}
 use Rattle.rulebook_cli.specs.Pick.{PickMakes, IsPickText, kept_lines}
-use Rattle.rulebook_cli.specs.Compare.{CompareMakes, IsCompareText, IsPairLine, pair_line, pairs}
+use Rattle.rulebook_cli.specs.Compare.{CompareMakes, IsCompareText, IsPairLine, pairs}
 use Rattle.maneuver_lattice.specs.SceneGraphs.{IsLatticeTrajectory}
 use Rattle.rulebook_cli.specs.SceneInputs.{scene}
 use Rattle.rulebook_cli.specs.Walk.{WalkMakes, IsWalkText, vector_of, walk_lines}

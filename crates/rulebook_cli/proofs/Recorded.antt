@@ -4,7 +4,6 @@ use Rattle.std.specs.declared.alloc.Global.{Global}
 use Rattle.std.specs.List.{flat_map}
 use Rattle.outside_io.specs.Outside.{Files}
 use Rattle.rulebook_order.specs.NoWorseUnder.{IsVerdictUnder}
-use Rattle.preorder.specs.declared.row.Row.{Row}
 use Rattle.trajectory_judge.specs.declared.judged.Judged.{Judged}
 use Rattle.trajectory_judge.specs.declared.records.Records.{Records}
 use Rattle.command_outcome.specs.declared.outcome.Role.TheVariants as role
@@ -13,13 +12,12 @@ use Rattle.command_outcome.specs.declared.outcome.Stop.{Stop}
 use Rattle.command_outcome.specs.declared.outcome.Stop.TheVariants as stop
 use Rattle.command_outcome.specs.Ends.{Serves, Shelf, Stands}
 use Rattle.command_outcome.specs.Outcome.{Outcome}
-use Rattle.command_outcome.specs.Tasks.{KeepsFiles}
 use Rattle.command_outcome.proofs.DueOutcomes.{same_outcome}
 use Rattle.command_outcome.proofs.HavingInputs.{SoFar, has_tested, none_more, one_more, test_stops}
 use Rattle.command_outcome.proofs.Serving.{made, stops}
 use Rattle.rulebook_cli.specs.Answers.{NoWorseFor}
 use Rattle.rulebook_cli.specs.Compare.{AreLines, IsPairLine, pairs}
-use Rattle.rulebook_cli.specs.Judge.{IsJudgeText, JudgeMakes, JudgeStops, Judges, judge_inputs, judge_task, judged_line, row_of, with_binding}
+use Rattle.rulebook_cli.specs.Judge.{IsJudgeText, JudgeMakes, Judges, judge_inputs, judge_task, judged_line, row_of, with_binding}
 use Rattle.rulebook_cli.specs.SceneInputs.{binding_told}
 use Rattle.rulebook_cli.specs.Walk.{rules_line}
 use Rattle.rulebook_cli.specs.declared.scene_files.SceneFiles.{SceneFiles}

@@ -1,5 +1,5 @@
 -- What is due to `sample N`.
-use Rattle.std.proofs.Common.{◌≡◌, ◌↔◌, ℕ, ◌<◌, ◌≤◌, List, [], ◌∷◌, length, map, take, ◌+◌, ◌++◌, get_or, Option, None, Result, Ok, Err, Some, Vec, refl, sym, ap, subst, ◌∙◌, arith, inl, inr}
+use Rattle.std.proofs.Common.{◌≡◌, ℕ, ◌<◌, ◌≤◌, List, [], ◌∷◌, length, take, ◌+◌, ◌++◌, get_or, Option, None, Result, Ok, Err, Some, Vec, refl, sym, ap, subst, ◌∙◌, arith, inl, inr}
 use Rattle.std.specs.Prelude.{All, Contains, IsSome, ⊤, codes}
 use Rattle.std.specs.FinMap.{empty}
 use Rattle.std.specs.List.Sorted.{IsPermutation, IsSortedBy}
@@ -11,17 +11,14 @@ use Rattle.outside_io.specs.Outside.{Files}
 use Rattle.preorder.specs.declared.order.Preorder.{Preorder}
 use Rattle.rulebook_order.specs.Answer.{AreUndominated, IsAnswerList}
 use Rattle.rulebook_order.specs.Certified.{IsGoalLabel, finished_at, finished_vectors}
-use Rattle.rulebook_order.specs.Graph.{Graph, IsReached, finished}
-use Rattle.rulebook_order.specs.NoWorseBy.{NoWorseBy, no_worse_by}
+use Rattle.rulebook_order.specs.Graph.{Graph, finished}
+use Rattle.rulebook_order.specs.NoWorseBy.{no_worse_by}
 use Rattle.rulebook_order.specs.VectorOrder.{Holds}
 use Rattle.rulebook_order.proofs.Agree.{IsAnswerList-agree}
 use Rattle.rulebook_order.proofs.Counting.{distinct_within}
 use Rattle.rulebook_order.proofs.Lists.{Contains-from_slice_get}
 use Rattle.label_search.specs.Found.{pairs_of}
-use Rattle.label_search.specs.declared.label.Found.{Found}
 use Rattle.label_search.specs.declared.label.Label.{Label}
-use Rattle.certificate_text.specs.declared.TheConstants.{MAX_LABELS}
-use Rattle.domination_proof.specs.Shown.{IsShown}
 use Rattle.violation_measures.specs.Binding.{IsBoundTo}
 use Rattle.violation_measures.specs.declared.bind_fault.BindFault.{BindFault}
 use Rattle.sample_scene.specs.Sample.{HasStart, MayBeBound, sample}

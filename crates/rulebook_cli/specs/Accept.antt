@@ -1,5 +1,5 @@
 -- `accept PARENT CHILD`: which step a book is from another, or why it is none.
-use Rattle.std.specs.Prelude.{◌≡◌, ◌⊎◌, ℕ, List, ◌++◌, None, Some, Result, Ok, Err, Vec, ⊤, codes}
+use Rattle.std.specs.Prelude.{◌≡◌, ◌⊎◌, ℕ, List, None, Some, Result, Ok, Err, Vec, ⊤, codes}
 use Rattle.std.specs.declared.alloc.Global.{Global}
 use Rattle.outside_io.specs.Outside.{Files}
 use Rattle.rule_language.specs.declared.book.Book.{Book}

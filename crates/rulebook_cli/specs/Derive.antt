@@ -1,5 +1,5 @@
 -- `derive PARENT SCRIPT`: the book that a script derives from another, or why it derives none.
-use Rattle.std.specs.Prelude.{◌≡◌, ◌⊎◌, ℕ, List, ◌++◌, Option, None, Some, Result, Ok, Err, Vec, ⊤, codes}
+use Rattle.std.specs.Prelude.{◌≡◌, ◌⊎◌, ℕ, List, Option, None, Some, Result, Ok, Err, Vec, ⊤}
 use Rattle.std.specs.declared.alloc.Global.{Global}
 use Rattle.outside_io.specs.Outside.{Files}
 use Rattle.reading.specs.Lines.{lines_of}

@@ -1,5 +1,5 @@
 -- `sample N`: how large the answer over the sample scene of a number is.
-use Rattle.std.specs.Prelude.{◌≡◌, ◌↔◌, ◌⊎◌, ℕ, List, [], ◌∷◌, ◌++◌, length, Contains, None, Result, Ok, Err, Vec, ⊤, codes}
+use Rattle.std.specs.Prelude.{◌≡◌, ◌↔◌, ◌⊎◌, ℕ, List, [], ◌∷◌, ◌++◌, length, Contains, None, Result, Ok, Err, Vec, codes}
 use Rattle.std.specs.declared.alloc.Global.{Global}
 use Rattle.outside_io.specs.Outside.{Files}
 use Rattle.text_lines.specs.Lines.{row_line}

@@ -1,4 +1,4 @@
-use Rattle.std.proofs.Common.{◌≡◌, length, ap, ◌∙◌}
+use Rattle.std.proofs.Common.{length, ap, ◌∙◌}
 use Rattle.std.specs.List.{flat_map}
 use Rattle.violation_measures.specs.Scenes.{features_of}
 use Rattle.violation_measures.specs.SceneSources.{scene_of as source_scene}

@@ -1,4 +1,4 @@
-use Rattle.std.proofs.Common.{List, ℕ, ◌∙◌}
+use Rattle.std.proofs.Common.{◌∙◌}
 use Rattle.std.proofs.lemmas.Result.{err_from_is_err_and}
 use Rattle.command_outcome.proofs.HavingInputs.{nothing_yet, one_more, none_more, unchanged}
 use Rattle.command_outcome.proofs.Serving.{stops}

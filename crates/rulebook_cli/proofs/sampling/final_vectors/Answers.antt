@@ -1,4 +1,4 @@
-use Rattle.std.proofs.Common.{rules, ◌≡◌, ◌<◌, ◌∙◌, length, get_or}
+use Rattle.std.proofs.Common.{rules, ◌<◌, ◌∙◌, length, get_or}
 use Rattle.maneuver_lattice.specs.Moves.{scene_of}
 use Rattle.rulebook_cli.specs.BoundScenes.{graph_at}
 use Rattle.rulebook_cli.proofs.Sampled.{one_more_final}

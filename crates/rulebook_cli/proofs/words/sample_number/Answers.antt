@@ -1,7 +1,5 @@
-use Rattle.std.proofs.Common.{rules, ◌≡◌, ◌≤◌, ℕ, ◌<◌, List, length, Option, Some, min, sym, subst, ◌∙◌, arith}
-use Rattle.std.specs.Option.{option_map}
+use Rattle.std.proofs.Common.{rules, ◌≡◌, ◌≤◌, ◌<◌, length, Some, sym, ◌∙◌, arith}
 use Rattle.reading.specs.Words.{number_of}
-use Rattle.reading.specs.declared.words.TheConstants.{PAST}
 use Rattle.rulebook_cli.proofs.SampleWords.{number_is, small_number}
 use Rattle.rulebook_cli.proofs.words.sample_number.Goals as goal
 
