@@ -168,7 +168,7 @@ fn bad_inputs_are_refused_by_name(rt: HostRuntime) -> Result<(), Fail> {
 
 #[test]
 fn words_with_no_reading_are_told_so(rt: HostRuntime) -> Result<(), Fail> {
-    let rows: [&[&str]; 10] = [
+    let rows: [&[&str]; 9] = [
         &[],
         &["pick"],
         &["pick", "b"],
