@@ -5,6 +5,7 @@
 #![tactic(auto)]
 
 mod ahead;
+mod indexed_track;
 mod nearness;
 mod placing;
 #[cfg(test)]

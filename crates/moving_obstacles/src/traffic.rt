@@ -10,7 +10,7 @@ ghost use Rattle.moving_obstacles.specs.Nearness.{is_met, gaps, distances, least
 ghost use Rattle.moving_obstacles.specs.Tracks.{track_of, IsTrafficOf, ForObstacles, shapes_in, pose_in, occupancy_in, meeting_in, nearest_gap_in, headway_in};
 
 use crate::ahead::least_distance;
-use crate::track::Track;
+use crate::indexed_track::IndexedTrack;
 use fixed_geometry::{Box2, Point, Polygon, direction};
 use preorder::{List, NoMemory};
 use scenario_model::{Obstacle, Scenario};
@@ -21,7 +21,7 @@ use std::marker::Model;
 const FARTHEST: i64 = 10_000_000;
 
 // How many of the obstacles meet the polygon at the tick.
-fn count_met(tracks: &[Track], ego: &[Point], tick: u32) -> usize
+fn count_met(tracks: &[IndexedTrack], ego: &[Point], tick: u32) -> usize
     requires { IsCornerList ego.now }
     ensures value { result ≡ count_by (λ t. is_met ego.now (shapes_in t tick)) tracks.now }
     ensures most { result ≤ length tracks.now }
@@ -34,7 +34,7 @@ fn count_met(tracks: &[Track], ego: &[Point], tick: u32) -> usize
 
 // The least gap to one of the obstacles at the tick.
 #[tactic(auto, unfolding(crate::specs::Nearness::least))]
-fn least_gap_of_all(tracks: &[Track], ego: Box2, tick: u32) -> i64
+fn least_gap_of_all(tracks: &[IndexedTrack], ego: Box2, tick: u32) -> i64
     requires { IsBoxInRange ego }
     ensures value { result ≡ least (flat_map (λ t. gaps ego (shapes_in t tick)) tracks.now) }
     ensures low { pos 0 ≤ℤ result }
@@ -50,7 +50,7 @@ fn least_gap_of_all(tracks: &[Track], ego: Box2, tick: u32) -> i64
 // The least distance to one of the obstacles that are ahead at the tick.
 #[tactic(auto, unfolding(crate::specs::Nearness::least))]
 fn least_distance_of_all(
-    tracks: &[Track],
+    tracks: &[IndexedTrack],
     position: Point,
     unit: Point,
     width: i64,
@@ -69,13 +69,13 @@ fn least_distance_of_all(
 }
 
 // The obstacles with their shapes placed.
-fn tracks_of(alloc: Global, obstacles: &[Obstacle]) -> Result<List<Track>, NoMemory>
+fn tracks_of(alloc: Global, obstacles: &[Obstacle]) -> Result<List<IndexedTrack>, NoMemory>
     requires { All IsObstacle obstacles.now }
     ensures { IfOk result (λ tracks. tracks ≡ map track_of obstacles.now) }
 {
     let mut tracks = List::new(alloc);
     for obstacle in obstacles {
-        tracks.push(Track::new(alloc, obstacle)?)?;
+        tracks.push(IndexedTrack::new(alloc, obstacle)?)?;
     }
     Ok(tracks)
 }
@@ -85,7 +85,7 @@ fn tracks_of(alloc: Global, obstacles: &[Obstacle]) -> Result<List<Track>, NoMem
 /// Clauses speak of the obstacles that the traffic was made of, by `IsTrafficOf`.
 #[derive(Drop)]
 pub struct Traffic {
-    tracks: List<Track>,
+    tracks: List<IndexedTrack>,
 }
 
 impl Model for Traffic {
