@@ -3,3 +3,4 @@ pub mod Occupancy
 pub mod Nearness
 pub mod Tracks
 pub mod Ticks
+pub mod Bounds

@@ -2,14 +2,14 @@ ghost use Rattle.std.specs.Prelude.{◌≡◌, ◌==◌, ◌≤ℤ◌, pos, find
 ghost use Rattle.std.specs.Option.{option_copied};
 ghost use Rattle.std.specs.List.{fold};
 ghost use Rattle.std.specs.Int.{int_min};
-ghost use Rattle.fixed_geometry.specs.Boxes.{IsBoxInRange};
+ghost use Rattle.fixed_geometry.specs.Boxes.{bounds as bounds_of, IsBoxInRange};
 ghost use Rattle.fixed_geometry.specs.Polygon.{IsCornerList};
 ghost use Rattle.scenario_model.specs.Scenario.{IsObstacle};
 ghost use Rattle.moving_obstacles.specs.Nearness.{is_met, gaps};
 ghost use Rattle.moving_obstacles.specs.Ticks.{RiseFrom, RisesFrom};
 
-use crate::nearness::{least_gap, meets_any};
-use crate::track::{Placement, Track};
+use crate::bounded_placement::BoundedPlacement;
+use crate::track::Track;
 use fixed_geometry::{Box2, Point, Polygon};
 use preorder::NoMemory;
 use scenario_model::{Obstacle, Pose};
@@ -36,12 +36,12 @@ impl Model for IndexedTrack {
 }
 
 // Whether the ticks rise by one, from the first tick on.
-fn do_rise(placements: &[Placement], first: u32) -> bool
+fn do_rise(placements: &[BoundedPlacement], first: u32) -> bool
     ensures { IsTrue result → RiseFrom first placements.now }
 {
     let mut next = u64::from(first);
     for placement in placements {
-        if u64::from(placement.pose.tick) != next {
+        if u64::from(placement.tick()) != next {
             return false;
         }
         next += 1;
@@ -54,7 +54,7 @@ fn first_tick(track: &Track) -> Option<u32>
     ensures { IfSome result (λ tick. RisesFrom tick track.now) }
 {
     let placements = track.placements.as_slice();
-    let first = placements.first()?.pose.tick;
+    let first = placements.first()?.tick();
     if track.moving && do_rise(placements, first) {
         Some(first)
     } else {
@@ -63,7 +63,7 @@ fn first_tick(track: &Track) -> Option<u32>
 }
 
 // The placement at the place, where there is one.
-fn placement_at(placements: &[Placement], place: usize) -> Option<&Placement>
+fn placement_at(placements: &[BoundedPlacement], place: usize) -> Option<&BoundedPlacement>
     ensures { option_copied result ≡ slice_get placements.now place }
 {
     if place < placements.len() {
@@ -74,7 +74,11 @@ fn placement_at(placements: &[Placement], place: usize) -> Option<&Placement>
 }
 
 // The placement of the tick, by its place.
-fn placement_from(placements: &[Placement], first: u32, tick: u32) -> Option<&Placement>
+fn placement_from(
+    placements: &[BoundedPlacement],
+    first: u32,
+    tick: u32,
+) -> Option<&BoundedPlacement>
     requires { RiseFrom first placements.now }
     ensures { option_copied result ≡ find (λ p. p.pose.tick == tick) placements.now }
 {
@@ -100,7 +104,7 @@ impl IndexedTrack {
 
     // The first placement with the tick, or the only one where the obstacle stands.
     #[tactic(auto, unfolding(crate::specs::Tracks::placement_in))]
-    fn placement_at(&self, tick: u32) -> Option<&Placement>
+    fn placement_at(&self, tick: u32) -> Option<&BoundedPlacement>
         ensures { option_copied result ≡ placement_in self.now tick }
     {
         match self.first_tick {
@@ -115,7 +119,7 @@ impl IndexedTrack {
         ensures { result ≡ pose_in self.now tick }
     {
         match self.placement_at(tick) {
-            Some(placement) => Some(placement.pose),
+            Some(placement) => Some(placement.pose()),
             None => None,
         }
     }
@@ -126,33 +130,35 @@ impl IndexedTrack {
         ensures { option_copied result ≡ shapes_in self.now tick }
     {
         match self.placement_at(tick) {
-            Some(placement) => Some(placement.shapes.as_slice()),
+            Some(placement) => Some(placement.shapes()),
             None => None,
         }
     }
 
-    /// Whether the polygon meets one of the shapes at the tick.
-    #[tactic(auto, unfolding(crate::specs::Nearness::is_met))]
-    pub(crate) fn is_met(&self, ego: &[Point], tick: u32) -> bool
-        requires { IsCornerList ego.now }
+    /// Whether the polygon, whose least box is given, meets one of the shapes at the tick.
+    #[tactic(auto, unfolding(crate::specs::Nearness::is_met, crate::specs::Tracks::shapes_in))]
+    pub(crate) fn is_met(&self, ego: &[Point], ego_bounds: Box2, tick: u32) -> bool
+        requires ego { IsCornerList ego.now }
+        requires bounds { ego_bounds ≡ bounds_of ego.now }
+        requires in_range { IsBoxInRange ego_bounds }
         ensures { result ≡ is_met ego.now (shapes_in self.now tick) }
     {
-        match self.shapes_at(tick) {
-            Some(shapes) => meets_any(ego, shapes),
+        match self.placement_at(tick) {
+            Some(placement) => placement.is_met(ego, ego_bounds),
             None => false,
         }
     }
 
     /// The least of `least` and the gaps to the shapes at the tick.
-    #[tactic(auto, unfolding(crate::specs::Nearness::gaps))]
+    #[tactic(auto, unfolding(crate::specs::Nearness::gaps, crate::specs::Tracks::shapes_in))]
     pub(crate) fn least_gap(&self, ego: Box2, tick: u32, least: i64) -> i64
         requires ego { IsBoxInRange ego }
         requires least { pos 0 ≤ℤ least }
         ensures value { result ≡ fold int_min least (gaps ego (shapes_in self.now tick)) }
         ensures low { pos 0 ≤ℤ result }
     {
-        match self.shapes_at(tick) {
-            Some(shapes) => least_gap(ego, shapes, least),
+        match self.placement_at(tick) {
+            Some(placement) => placement.least_gap(ego, least),
             None => least,
         }
     }

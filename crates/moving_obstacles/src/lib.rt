@@ -5,6 +5,7 @@
 #![tactic(auto)]
 
 mod ahead;
+mod bounded_placement;
 mod indexed_track;
 mod nearness;
 mod placing;

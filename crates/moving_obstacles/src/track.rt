@@ -2,6 +2,7 @@ ghost use Rattle.std.specs.Prelude.{◌≡◌, ◌==◌, All, find, map, IfOk};
 ghost use Rattle.std.specs.Option.{option_copied};
 ghost use Rattle.scenario_model.specs.Scenario.{IsObstacle, IsShape, IsPose};
 
+use crate::bounded_placement::BoundedPlacement;
 use crate::placing::placed_shapes;
 use fixed_geometry::Polygon;
 use preorder::{List, NoMemory};
@@ -19,22 +20,22 @@ pub(crate) struct Placement {
 #[derive(Drop)]
 pub(crate) struct Track {
     pub moving: bool,
-    pub placements: List<Placement>,
+    pub placements: List<BoundedPlacement>,
 }
 
 // The first placement with the tick.
-fn first_at(placements: &[Placement], tick: u32) -> Option<&Placement>
+fn first_at(placements: &[BoundedPlacement], tick: u32) -> Option<&BoundedPlacement>
     ensures { option_copied result ≡ find (λ p. p.pose.tick == tick) placements.now }
 {
-    placements.iter().find(|p| p.pose.tick == tick)
+    placements.iter().find(|p| p.tick() == tick)
 }
 
 impl Placement {
     ghost use Rattle.moving_obstacles.specs.Tracks.{placement_of};
 
-    // The shapes at the pose.
+    /// The shapes at the pose.
     #[tactic(auto, unfolding(crate::specs::Tracks::placement_of))]
-    fn new(alloc: Global, pose: Pose, shapes: &[Shape]) -> Result<Placement, NoMemory>
+    pub(crate) fn new(alloc: Global, pose: Pose, shapes: &[Shape]) -> Result<Placement, NoMemory>
         requires pose { IsPose pose }
         requires shapes { All IsShape shapes.now }
         ensures { IfOk result (λ placement. placement ≡ placement_of shapes.now pose) }
@@ -52,14 +53,14 @@ impl Track {
         alloc: Global,
         states: &[Pose],
         shapes: &[Shape],
-    ) -> Result<List<Placement>, NoMemory>
+    ) -> Result<List<BoundedPlacement>, NoMemory>
         requires states { All IsPose states.now }
         requires shapes { All IsShape shapes.now }
         ensures { IfOk result (λ placements. placements ≡ map (placement_of shapes.now) states.now) }
     {
         let mut placements = List::new(alloc);
         for state in states {
-            placements.push(Placement::new(alloc, *state, shapes)?)?;
+            placements.push(BoundedPlacement::new(alloc, *state, shapes)?)?;
         }
         Ok(placements)
     }
@@ -80,7 +81,7 @@ impl Track {
 
     /// The first placement with the tick, or the only one where the obstacle stands.
     #[tactic(auto, unfolding(crate::specs::Tracks::placement_in))]
-    pub(crate) fn placement_at(&self, tick: u32) -> Option<&Placement>
+    pub(crate) fn placement_at(&self, tick: u32) -> Option<&BoundedPlacement>
         ensures { option_copied result ≡ placement_in self.now tick }
     {
         let placements = self.placements.as_slice();

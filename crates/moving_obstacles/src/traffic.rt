@@ -2,7 +2,7 @@ ghost use Rattle.std.specs.Prelude.{◌≡◌, ◌<◌, ◌≤◌, ◌≤ℤ◌,
 ghost use Rattle.std.specs.List.{flat_map};
 ghost use Rattle.std.specs.Option.{option_copied};
 ghost use Rattle.fixed_geometry.specs.Plane.{IsWithin, IsInRange};
-ghost use Rattle.fixed_geometry.specs.Boxes.{IsBoxInRange};
+ghost use Rattle.fixed_geometry.specs.Boxes.{bounds as bounds_of, IsBoxInRange};
 ghost use Rattle.fixed_geometry.specs.Polygon.{IsCornerList};
 ghost use Rattle.scenario_model.specs.Scenario.{IsObstacle, IsScenario};
 ghost use Rattle.moving_obstacles.specs.Occupancy.{occupancy};
@@ -11,7 +11,7 @@ ghost use Rattle.moving_obstacles.specs.Tracks.{track_of, IsTrafficOf, ForObstac
 
 use crate::ahead::least_distance;
 use crate::indexed_track::IndexedTrack;
-use fixed_geometry::{Box2, Point, Polygon, direction};
+use fixed_geometry::{Box2, Point, Polygon, bounds, direction};
 use preorder::{List, NoMemory};
 use scenario_model::{Obstacle, Scenario};
 use std::alloc::Global;
@@ -21,14 +21,16 @@ use std::marker::Model;
 const FARTHEST: i64 = 10_000_000;
 
 // How many of the obstacles meet the polygon at the tick.
-fn count_met(tracks: &[IndexedTrack], ego: &[Point], tick: u32) -> usize
-    requires { IsCornerList ego.now }
+fn count_met(tracks: &[IndexedTrack], ego: &[Point], ego_bounds: Box2, tick: u32) -> usize
+    requires ego { IsCornerList ego.now }
+    requires bounds { ego_bounds ≡ bounds_of ego.now }
+    requires in_range { IsBoxInRange ego_bounds }
     ensures value { result ≡ count_by (λ t. is_met ego.now (shapes_in t tick)) tracks.now }
     ensures most { result ≤ length tracks.now }
 {
     tracks
         .iter()
-        .filter(|track| track.is_met(ego, tick))
+        .filter(|track| track.is_met(ego, ego_bounds, tick))
         .count()
 }
 
@@ -143,7 +145,7 @@ impl Traffic {
         ensures all { ForObstacles self.now (λ obstacles. result ≡ meeting obstacles ego.now tick) }
         ensures most { result ≤ 500 }
     {
-        count_met(self.tracks.as_slice(), ego, tick) as u32
+        count_met(self.tracks.as_slice(), ego, bounds(ego), tick) as u32
     }
 
     /// The least box gap to a shape of an obstacle at the tick, in 0.1 mm: 10^7 at most, and where no obstacle is there.
