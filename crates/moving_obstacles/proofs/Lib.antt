@@ -1,2 +1,4 @@
 pub mod Same
 pub mod Leasts
+pub mod Rising
+pub mod Bounding

@@ -2,3 +2,5 @@ pub mod Placing
 pub mod Occupancy
 pub mod Nearness
 pub mod Tracks
+pub mod Ticks
+pub mod Bounds

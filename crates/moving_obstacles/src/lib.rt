@@ -5,6 +5,8 @@
 #![tactic(auto)]
 
 mod ahead;
+mod bounded_placement;
+mod indexed_track;
 mod nearness;
 mod placing;
 #[cfg(test)]

@@ -1,15 +1,10 @@
-ghost use Rattle.std.specs.Prelude.{◌≡◌, ◌==◌, ◌≤ℤ◌, pos, All, find, map, IfOk};
+ghost use Rattle.std.specs.Prelude.{◌≡◌, ◌==◌, All, find, map, IfOk};
 ghost use Rattle.std.specs.Option.{option_copied};
-ghost use Rattle.std.specs.List.{fold};
-ghost use Rattle.std.specs.Int.{int_min};
-ghost use Rattle.fixed_geometry.specs.Boxes.{IsBoxInRange};
-ghost use Rattle.fixed_geometry.specs.Polygon.{IsCornerList};
 ghost use Rattle.scenario_model.specs.Scenario.{IsObstacle, IsShape, IsPose};
-ghost use Rattle.moving_obstacles.specs.Nearness.{is_met, gaps};
 
-use crate::nearness::{least_gap, meets_any};
+use crate::bounded_placement::BoundedPlacement;
 use crate::placing::placed_shapes;
-use fixed_geometry::{Box2, Point, Polygon};
+use fixed_geometry::Polygon;
 use preorder::{List, NoMemory};
 use scenario_model::{Obstacle, Pose, Shape};
 use std::alloc::Global;
@@ -25,22 +20,22 @@ pub(crate) struct Placement {
 #[derive(Drop)]
 pub(crate) struct Track {
     pub moving: bool,
-    pub placements: List<Placement>,
+    pub placements: List<BoundedPlacement>,
 }
 
 // The first placement with the tick.
-fn first_at(placements: &[Placement], tick: u32) -> Option<&Placement>
+fn first_at(placements: &[BoundedPlacement], tick: u32) -> Option<&BoundedPlacement>
     ensures { option_copied result ≡ find (λ p. p.pose.tick == tick) placements.now }
 {
-    placements.iter().find(|p| p.pose.tick == tick)
+    placements.iter().find(|p| p.tick() == tick)
 }
 
 impl Placement {
     ghost use Rattle.moving_obstacles.specs.Tracks.{placement_of};
 
-    // The shapes at the pose.
+    /// The shapes at the pose.
     #[tactic(auto, unfolding(crate::specs::Tracks::placement_of))]
-    fn new(alloc: Global, pose: Pose, shapes: &[Shape]) -> Result<Placement, NoMemory>
+    pub(crate) fn new(alloc: Global, pose: Pose, shapes: &[Shape]) -> Result<Placement, NoMemory>
         requires pose { IsPose pose }
         requires shapes { All IsShape shapes.now }
         ensures { IfOk result (λ placement. placement ≡ placement_of shapes.now pose) }
@@ -51,21 +46,21 @@ impl Placement {
 }
 
 impl Track {
-    ghost use Rattle.moving_obstacles.specs.Tracks.{placement_of, track_of, placement_in, pose_in, shapes_in};
+    ghost use Rattle.moving_obstacles.specs.Tracks.{placement_of, track_of, placement_in};
 
     // The shapes at each of the poses, in order.
     fn placements(
         alloc: Global,
         states: &[Pose],
         shapes: &[Shape],
-    ) -> Result<List<Placement>, NoMemory>
+    ) -> Result<List<BoundedPlacement>, NoMemory>
         requires states { All IsPose states.now }
         requires shapes { All IsShape shapes.now }
         ensures { IfOk result (λ placements. placements ≡ map (placement_of shapes.now) states.now) }
     {
         let mut placements = List::new(alloc);
         for state in states {
-            placements.push(Placement::new(alloc, *state, shapes)?)?;
+            placements.push(BoundedPlacement::new(alloc, *state, shapes)?)?;
         }
         Ok(placements)
     }
@@ -84,9 +79,9 @@ impl Track {
         })
     }
 
-    // The first placement with the tick, or the only one where the obstacle stands.
+    /// The first placement with the tick, or the only one where the obstacle stands.
     #[tactic(auto, unfolding(crate::specs::Tracks::placement_in))]
-    fn placement_at(&self, tick: u32) -> Option<&Placement>
+    pub(crate) fn placement_at(&self, tick: u32) -> Option<&BoundedPlacement>
         ensures { option_copied result ≡ placement_in self.now tick }
     {
         let placements = self.placements.as_slice();
@@ -94,54 +89,6 @@ impl Track {
             first_at(placements, tick)
         } else {
             placements.first()
-        }
-    }
-
-    /// Where the obstacle is at the tick, if anywhere.
-    #[tactic(auto, unfolding(crate::specs::Tracks::pose_in))]
-    pub(crate) fn pose_at(&self, tick: u32) -> Option<Pose>
-        ensures { result ≡ pose_in self.now tick }
-    {
-        match self.placement_at(tick) {
-            Some(placement) => Some(placement.pose),
-            None => None,
-        }
-    }
-
-    /// The shapes placed at that pose.
-    #[tactic(auto, unfolding(crate::specs::Tracks::shapes_in))]
-    pub(crate) fn shapes_at(&self, tick: u32) -> Option<&[Polygon]>
-        ensures { option_copied result ≡ shapes_in self.now tick }
-    {
-        match self.placement_at(tick) {
-            Some(placement) => Some(placement.shapes.as_slice()),
-            None => None,
-        }
-    }
-
-    /// Whether the polygon meets one of the shapes at the tick.
-    #[tactic(auto, unfolding(crate::specs::Nearness::is_met))]
-    pub(crate) fn is_met(&self, ego: &[Point], tick: u32) -> bool
-        requires { IsCornerList ego.now }
-        ensures { result ≡ is_met ego.now (shapes_in self.now tick) }
-    {
-        match self.shapes_at(tick) {
-            Some(shapes) => meets_any(ego, shapes),
-            None => false,
-        }
-    }
-
-    /// The least of `least` and the gaps to the shapes at the tick.
-    #[tactic(auto, unfolding(crate::specs::Nearness::gaps))]
-    pub(crate) fn least_gap(&self, ego: Box2, tick: u32, least: i64) -> i64
-        requires ego { IsBoxInRange ego }
-        requires least { pos 0 ≤ℤ least }
-        ensures value { result ≡ fold int_min least (gaps ego (shapes_in self.now tick)) }
-        ensures low { pos 0 ≤ℤ result }
-    {
-        match self.shapes_at(tick) {
-            Some(shapes) => least_gap(ego, shapes, least),
-            None => least,
         }
     }
 }

@@ -2,7 +2,7 @@ ghost use Rattle.std.specs.Prelude.{◌≡◌, ◌<◌, ◌≤◌, ◌≤ℤ◌,
 ghost use Rattle.std.specs.List.{flat_map};
 ghost use Rattle.std.specs.Option.{option_copied};
 ghost use Rattle.fixed_geometry.specs.Plane.{IsWithin, IsInRange};
-ghost use Rattle.fixed_geometry.specs.Boxes.{IsBoxInRange};
+ghost use Rattle.fixed_geometry.specs.Boxes.{bounds as bounds_of, IsBoxInRange};
 ghost use Rattle.fixed_geometry.specs.Polygon.{IsCornerList};
 ghost use Rattle.scenario_model.specs.Scenario.{IsObstacle, IsScenario};
 ghost use Rattle.moving_obstacles.specs.Occupancy.{occupancy};
@@ -10,8 +10,8 @@ ghost use Rattle.moving_obstacles.specs.Nearness.{is_met, gaps, distances, least
 ghost use Rattle.moving_obstacles.specs.Tracks.{track_of, IsTrafficOf, ForObstacles, shapes_in, pose_in, occupancy_in, meeting_in, nearest_gap_in, headway_in};
 
 use crate::ahead::least_distance;
-use crate::track::Track;
-use fixed_geometry::{Box2, Point, Polygon, direction};
+use crate::indexed_track::IndexedTrack;
+use fixed_geometry::{Box2, Point, Polygon, bounds, direction};
 use preorder::{List, NoMemory};
 use scenario_model::{Obstacle, Scenario};
 use std::alloc::Global;
@@ -21,20 +21,22 @@ use std::marker::Model;
 const FARTHEST: i64 = 10_000_000;
 
 // How many of the obstacles meet the polygon at the tick.
-fn count_met(tracks: &[Track], ego: &[Point], tick: u32) -> usize
-    requires { IsCornerList ego.now }
+fn count_met(tracks: &[IndexedTrack], ego: &[Point], ego_bounds: Box2, tick: u32) -> usize
+    requires ego { IsCornerList ego.now }
+    requires bounds { ego_bounds ≡ bounds_of ego.now }
+    requires in_range { IsBoxInRange ego_bounds }
     ensures value { result ≡ count_by (λ t. is_met ego.now (shapes_in t tick)) tracks.now }
     ensures most { result ≤ length tracks.now }
 {
     tracks
         .iter()
-        .filter(|track| track.is_met(ego, tick))
+        .filter(|track| track.is_met(ego, ego_bounds, tick))
         .count()
 }
 
 // The least gap to one of the obstacles at the tick.
 #[tactic(auto, unfolding(crate::specs::Nearness::least))]
-fn least_gap_of_all(tracks: &[Track], ego: Box2, tick: u32) -> i64
+fn least_gap_of_all(tracks: &[IndexedTrack], ego: Box2, tick: u32) -> i64
     requires { IsBoxInRange ego }
     ensures value { result ≡ least (flat_map (λ t. gaps ego (shapes_in t tick)) tracks.now) }
     ensures low { pos 0 ≤ℤ result }
@@ -50,7 +52,7 @@ fn least_gap_of_all(tracks: &[Track], ego: Box2, tick: u32) -> i64
 // The least distance to one of the obstacles that are ahead at the tick.
 #[tactic(auto, unfolding(crate::specs::Nearness::least))]
 fn least_distance_of_all(
-    tracks: &[Track],
+    tracks: &[IndexedTrack],
     position: Point,
     unit: Point,
     width: i64,
@@ -69,13 +71,13 @@ fn least_distance_of_all(
 }
 
 // The obstacles with their shapes placed.
-fn tracks_of(alloc: Global, obstacles: &[Obstacle]) -> Result<List<Track>, NoMemory>
+fn tracks_of(alloc: Global, obstacles: &[Obstacle]) -> Result<List<IndexedTrack>, NoMemory>
     requires { All IsObstacle obstacles.now }
     ensures { IfOk result (λ tracks. tracks ≡ map track_of obstacles.now) }
 {
     let mut tracks = List::new(alloc);
     for obstacle in obstacles {
-        tracks.push(Track::new(alloc, obstacle)?)?;
+        tracks.push(IndexedTrack::new(alloc, obstacle)?)?;
     }
     Ok(tracks)
 }
@@ -85,7 +87,7 @@ fn tracks_of(alloc: Global, obstacles: &[Obstacle]) -> Result<List<Track>, NoMem
 /// Clauses speak of the obstacles that the traffic was made of, by `IsTrafficOf`.
 #[derive(Drop)]
 pub struct Traffic {
-    tracks: List<Track>,
+    tracks: List<IndexedTrack>,
 }
 
 impl Model for Traffic {
@@ -143,7 +145,7 @@ impl Traffic {
         ensures all { ForObstacles self.now (λ obstacles. result ≡ meeting obstacles ego.now tick) }
         ensures most { result ≤ 500 }
     {
-        count_met(self.tracks.as_slice(), ego, tick) as u32
+        count_met(self.tracks.as_slice(), ego, bounds(ego), tick) as u32
     }
 
     /// The least box gap to a shape of an obstacle at the tick, in 0.1 mm: 10^7 at most, and where no obstacle is there.
