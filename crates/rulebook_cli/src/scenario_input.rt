@@ -103,5 +103,6 @@ fn missing_text(what: Wanted) -> &'static str
         Wanted::GoalState => "missing goalState",
         Wanted::IntervalStart => "missing intervalStart",
         Wanted::IntervalEnd => "missing intervalEnd",
+        Wanted::Role => "missing role",
     }
 }

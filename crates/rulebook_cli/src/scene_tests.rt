@@ -7,6 +7,7 @@ use std::test::Fail;
 /// A scene as the three texts of its files, the scenario in pieces.
 #[derive(Clone, Copy)]
 struct Scene {
+    version: &'static str,
     obstacle: &'static str,
     start: &'static str,
     goal: &'static str,
@@ -54,6 +55,10 @@ const AT_1: &str = "<time><intervalStart>1</intervalStart><intervalEnd>1</interv
 const CAR: &str =
     "<staticObstacle id='5'><shape><rectangle><length>4.5</length><width>1.8</width></rectangle></shape><initialState><position><point><x>10</x><y>0</y></point></position></initialState></staticObstacle>";
 
+// The same car, as version 2018b has it.
+const CAR_BY_ROLE: &str =
+    "<obstacle id='5'><role>static</role><shape><rectangle><length>4.5</length><width>1.8</width></rectangle></shape><initialState><position><point><x>10</x><y>0</y></point></position></initialState></obstacle>";
+
 const ROUND_IT: &str =
     "<time><intervalStart>1</intervalStart><intervalEnd>1</intervalEnd></time><position><rectangle><length>4</length><width>12</width><center><x>10</x><y>0</y></center></rectangle></position>";
 
@@ -85,6 +90,7 @@ const TIE: &str =
     "horizon = 1\nlength = 1\nwidth = 1\ntolerance = 1000\nclass = [{name = 'c', heading = 0, speed = 11000}, {name = 'd', heading = 0, speed = 9000}]\nmaneuver = [{name = 'p', from = 'c', to = 'c', steps = [[10000, 0, 0, 11000, 0, 0]]}, {name = 'q', from = 'd', to = 'd', steps = [[10000, 0, 0, 9000, 0, 0]]}]\n";
 
 const PLAIN: Scene = Scene {
+    version: "2020a",
     obstacle: "",
     start: FROM_0,
     goal: AT_1,
@@ -93,6 +99,7 @@ const PLAIN: Scene = Scene {
 };
 
 const PARKED: Scene = Scene {
+    version: "2020a",
     obstacle: CAR,
     start: FROM_0,
     goal: ROUND_IT,
@@ -100,10 +107,26 @@ const PARKED: Scene = Scene {
     lattice: SWERVE,
 };
 
+// The same scene in version 2018b.
+const PARKED_BY_ROLE: Scene = Scene {
+    version: "2018b",
+    obstacle: CAR_BY_ROLE,
+    start: FROM_0,
+    goal: ROUND_IT,
+    book: FIVE,
+    lattice: SWERVE,
+};
+
 // The document of a scene with one lanelet and one problem.
-fn document(alloc: Global, obstacle: &str, start: &str, goal: &str) -> Result<String, Fail> {
+fn document(
+    alloc: Global,
+    version: &str,
+    obstacle: &str,
+    start: &str,
+    goal: &str,
+) -> Result<String, Fail> {
     Ok(format!(in alloc;
-        "<commonRoad commonRoadVersion='2020a' timeStepSize='0.1'>\n{LANELET}{obstacle}<planningProblem id='9'><initialState><position><point><x>0</x><y>0</y></point></position><orientation><exact>0</exact></orientation>{start}</initialState><goalState>{goal}</goalState></planningProblem>\n</commonRoad>\n"
+        "<commonRoad commonRoadVersion='{version}' timeStepSize='0.1'>\n{LANELET}{obstacle}<planningProblem id='9'><initialState><position><point><x>0</x><y>0</y></point></position><orientation><exact>0</exact></orientation>{start}</initialState><goalState>{goal}</goalState></planningProblem>\n</commonRoad>\n"
     )?)
 }
 
@@ -148,7 +171,13 @@ fn run(
     certificate: &[u8],
     failing: Failing,
 ) -> Result<Left, Fail> {
-    let scenario = document(alloc, scene.obstacle, scene.start, scene.goal)?;
+    let scenario = document(
+        alloc,
+        scene.version,
+        scene.obstacle,
+        scene.start,
+        scene.goal,
+    )?;
     run_over(
         alloc,
         command,
@@ -341,7 +370,7 @@ fn a_goal_is_met_where_it_is(rt: HostRuntime) -> Result<(), Fail> {
     ];
     for (more, ends) in rows {
         let goal = format!(in rt.alloc(); "{AT_1}{more}")?;
-        let scenario = document(rt.alloc(), "", FROM_0, goal.as_str())?;
+        let scenario = document(rt.alloc(), "2020a", "", FROM_0, goal.as_str())?;
         let left = run_over(
             rt.alloc(),
             "walk",
@@ -368,7 +397,7 @@ fn plan_prints_the_answer_and_check_accepts_it(rt: HostRuntime) -> Result<(), Fa
         ..PLAIN
     };
     let last = "rule a\npart a 1 maneuver(p)\nrule b\nfinal b 1 maneuver(q)\nfinal b 2 tick\n";
-    let rows: [(Scene, &str); 6] = [
+    let rows: [(Scene, &str); 7] = [
         (
             Scene {
                 goal: AT_0,
@@ -388,6 +417,10 @@ fn plan_prints_the_answer_and_check_accepts_it(rt: HostRuntime) -> Result<(), Fa
         ),
         (
             PARKED,
+            "rules collision lane speed accel turn\nfront 2\n0 4 0 0 300000 : sharp\n0 4 0 1000 100000 : soft\n",
+        ),
+        (
+            PARKED_BY_ROLE,
             "rules collision lane speed accel turn\nfront 2\n0 4 0 0 300000 : sharp\n0 4 0 1000 100000 : soft\n",
         ),
         (
@@ -415,6 +448,12 @@ fn plan_prints_the_answer_and_check_accepts_it(rt: HostRuntime) -> Result<(), Fa
         assert_eq!(rt; checked.status, Status::Done);
         assert_eq!(rt; checked.text.as_slice(), accepted.as_bytes());
     }
+    let parked = run(rt.alloc(), "plan", "c", PARKED, b"", NOTHING)?;
+    let by_role = run(rt.alloc(), "plan", "c", PARKED_BY_ROLE, b"", NOTHING)?;
+    assert_eq!(rt;
+        by_role.certificate.as_slice(),
+        parked.certificate.as_slice()
+    );
     Ok(())
 }
 
@@ -625,7 +664,7 @@ fn due_at(alloc: Global, tick: u32) -> Result<String, Fail> {
     let goal = format!(in alloc;
         "<time><intervalStart>{tick}</intervalStart><intervalEnd>{tick}</intervalEnd></time>"
     )?;
-    document(alloc, "", FROM_0, goal.as_str())
+    document(alloc, "2020a", "", FROM_0, goal.as_str())
 }
 
 const AND_Q: &str =

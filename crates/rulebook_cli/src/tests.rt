@@ -276,6 +276,13 @@ fn a_file_that_is_too_long_is_refused(rt: HostRuntime) -> Result<(), Fail> {
 const OPENING: &[u8] =
     b"<commonRoad commonRoadVersion=\"2020a\" benchmarkID=\"S1\" timeStepSize=\"0.1\">\n";
 
+const OPENING_2018B: &[u8] =
+    b"<commonRoad commonRoadVersion=\"2018b\" benchmarkID=\"V1\" timeStepSize=\"0.1\">\n";
+
+/// A car of version 2018b at (10, 0), from its shape on.
+const PARKED: &[u8] =
+    b"<shape><rectangle><length>4.5</length><width>1.8</width></rectangle></shape><initialState><position><point><x>10</x><y>0</y></point></position></initialState></obstacle>\n";
+
 const LANELET: &[u8] =
     b"<lanelet id=\"1\"><leftBound><point><x>-50</x><y>2</y></point><point><x>150</x><y>2</y></point></leftBound><rightBound><point><x>-50</x><y>-2</y></point><point><x>150</x><y>-2</y></point></rightBound></lanelet>\n";
 
@@ -310,15 +317,46 @@ fn shown(alloc: Global, pieces: &[&[u8]]) -> Result<(Status, Vec<u8>), Fail> {
 
 #[test]
 fn show_prints_what_the_document_says(rt: HostRuntime) -> Result<(), Fail> {
-    let (status, text) = shown(
-        rt.alloc(),
-        &[OPENING, LANELET, PROBLEM, STANDING, SPEED, GOAL, ENDING],
-    )?;
-    assert_eq!(rt; status, Status::Done);
-    assert_eq!(rt;
-        text.as_slice(),
-        b"version 2020a\nstep 100000\nlanelets 1\nlanelet 1 points 4 successors 0\nobstacles 0\nproblems 1\nproblem 9 x 0 y 0 heading 0 speed 10000 tick 0 goals 1\n".as_slice()
-    );
+    let rows: [(&[&[u8]], &[u8]); 3] = [
+        (
+            &[OPENING, LANELET, PROBLEM, STANDING, SPEED, GOAL, ENDING],
+            b"version 2020a\nstep 100000\nlanelets 1\nlanelet 1 points 4 successors 0\nobstacles 0\nproblems 1\nproblem 9 x 0 y 0 heading 0 speed 10000 tick 0 goals 1\n",
+        ),
+        (
+            &[
+                OPENING_2018B,
+                LANELET,
+                b"<obstacle id=\"5\"><role>static</role>",
+                PARKED,
+                PROBLEM,
+                STANDING,
+                SPEED,
+                GOAL,
+                b"<position><rectangle><length>4</length><width>12</width><center><x>10</x><y>0</y></center></rectangle></position>",
+                ENDING,
+            ],
+            b"version 2018b\nstep 100000\nlanelets 1\nlanelet 1 points 4 successors 0\nobstacles 1\nobstacle 5 static states 1 shapes 1\nproblems 1\nproblem 9 x 0 y 0 heading 0 speed 10000 tick 0 goals 1\n",
+        ),
+        (
+            &[
+                OPENING,
+                LANELET,
+                b"<obstacle id=\"5\"><role>static</role>",
+                PARKED,
+                PROBLEM,
+                STANDING,
+                SPEED,
+                GOAL,
+                ENDING,
+            ],
+            b"version 2020a\nstep 100000\nlanelets 1\nlanelet 1 points 4 successors 0\nobstacles 0\nproblems 1\nproblem 9 x 0 y 0 heading 0 speed 10000 tick 0 goals 1\n",
+        ),
+    ];
+    for (pieces, wanted) in rows {
+        let (status, text) = shown(rt.alloc(), pieces)?;
+        assert_eq!(rt; status, Status::Done);
+        assert_eq!(rt; text.as_slice(), wanted);
+    }
     Ok(())
 }
 
@@ -335,8 +373,34 @@ fn what_a_start_lacks_counts_as_nothing(rt: HostRuntime) -> Result<(), Fail> {
 
 #[test]
 fn bad_scenarios_are_refused_by_name(rt: HostRuntime) -> Result<(), Fail> {
-    let rows: [(&[&[u8]], &[u8]); 4] = [
+    // <obstacle id="5"> begins at 75 + 209, and is 17 long.
+    let rows: [(&[&[u8]], &[u8]); 6] = [
         (&[&OPENING[..40]], b"refused scenario truncated 0\n"),
+        (
+            &[
+                OPENING_2018B,
+                LANELET,
+                b"<obstacle id=\"5\">",
+                b"<role>parked</role>",
+                PARKED,
+                PROBLEM,
+                GOAL,
+                ENDING,
+            ],
+            b"refused scenario unsupported 301\n",
+        ),
+        (
+            &[
+                OPENING_2018B,
+                LANELET,
+                b"<obstacle id=\"5\">",
+                PARKED,
+                PROBLEM,
+                GOAL,
+                ENDING,
+            ],
+            b"refused scenario missing role 284\n",
+        ),
         (
             &[
                 OPENING, LANELET, LANELET, PROBLEM, STANDING, SPEED, GOAL, ENDING,

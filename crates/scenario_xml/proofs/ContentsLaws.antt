@@ -9,7 +9,7 @@ use Rattle.scenario_model.specs.declared.lanelet.Lanelet.{Lanelet}
 use Rattle.scenario_model.specs.declared.obstacle.Obstacle.{Obstacle}
 use Rattle.scenario_model.specs.declared.problem.Problem.{Problem}
 use Rattle.scenario_model.specs.declared.scenario.Scenario.{Scenario}
-use Rattle.scenario_model.specs.declared.scenario.Version.TheVariants.{V2020a}
+use Rattle.scenario_model.specs.declared.scenario.Version.{Version}
 use Rattle.scenario_xml.specs.ScenarioFaults.{ids_in, IsRead}
 use Rattle.scenario_xml.specs.Scenarios.{contents, first_in, unknown_in_problem}
 use Rattle.scenario_xml.specs.Sound.{IsSoundProblem, AreContents, AreWhole}
@@ -28,9 +28,9 @@ pub problem_more : (c : Contents) (p : Problem) → AreContents c → IsSoundPro
 problem_more c p h sound = record { lanelets = h.lanelets; obstacles = h.obstacles; problems = All-push IsSoundProblem c.problems p h.problems sound }
 
 -- what was read of a whole root
-pub whole_contents : (doc : Document) (c : Contents) → contents doc ≡ Ok c → AreContents c → AreWhole c
-whole_contents doc c e h =
-    let read : IsRead doc (children doc 0) c = contents_are doc c e in
+pub whole_contents : (doc : Document) (version : Version) (c : Contents) → contents doc version ≡ Ok c → AreContents c → AreWhole c
+whole_contents doc version c e h =
+    let read : IsRead doc version (children doc 0) c = contents_are doc version c e in
     record {
       contents = h;
       known = read.known ∙ ids_are doc (ids_in doc) c.lanelets read.items.lanelets.read;
@@ -47,7 +47,7 @@ there_is_one [] e = absurd cc
 there_is_one (x ∷ xs) e = omega arith
 
 abbrev scenario_of : ℤ → Contents → Scenario
-scenario_of step c = record { version = V2020a; step_micros = step; lanelets = c.lanelets; obstacles = c.obstacles; problems = c.problems }
+scenario_of step c = record { version = c.version; step_micros = step; lanelets = c.lanelets; obstacles = c.obstacles; problems = c.problems }
 
 abbrev IsStep : ℤ → Type 0
 IsStep step = (pos 1 ≤ℤ step) × (step ≤ℤ pos (10 ^ 9))

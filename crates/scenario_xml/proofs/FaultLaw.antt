@@ -1,5 +1,5 @@
 -- A fault that is told is the first.
-use Rattle.std.proofs.Common.{◌≡◌, ℕ, Bool, true, false, cond, eqb, List, [], ◌∷◌, length, ℤ, Option, Some, None, Result, Ok, Err, refl, ap, sym, ◌∙◌, subst, arith}
+use Rattle.std.proofs.Common.{◌≡◌, ℕ, Bool, true, false, cond, eqb, List, [], ◌∷◌, length, Option, Some, None, Result, Ok, Err, refl, ap, sym, ◌∙◌, subst, arith}
 use Rattle.std.specs.Bool.{OnFalse}
 use Rattle.std.specs.List.{All}
 use Rattle.std.specs.Result.{IfErr}
@@ -12,6 +12,7 @@ use Rattle.element_tree.specs.Trees.{children}
 use Rattle.reading.specs.Reading.{◌>>=◌, Gives}
 use Rattle.reading.proofs.ReadingLaws.{handed_on}
 use Rattle.scenario_model.specs.declared.scenario.Scenario.{Scenario}
+use Rattle.scenario_model.specs.declared.scenario.Version.{Version}
 use Rattle.scenario_xml.specs.Children.{read_nodes, IsFirstFault}
 use Rattle.scenario_xml.specs.Faults.{is_memory, from_markup}
 use Rattle.scenario_xml.specs.ScenarioFaults.{ids_in, IsRead, IsChildFault, IsFirstUnknown, IsFirstFaultOf, in_root, in_child, in_region, in_whole, IsFirstFaultIn, in_markup, in_document}
@@ -20,6 +21,7 @@ use Rattle.scenario_xml.specs.Scenarios.{content_step, contents, root, first_in,
 use Rattle.scenario_xml.specs.declared.contents.Contents.{Contents}
 use Rattle.scenario_xml.specs.declared.fault.ScenarioFault.{ScenarioFault}
 use Rattle.scenario_xml.specs.declared.fault.ScenarioFault.TheVariants.{UnknownRef, NoProblem}
+use Rattle.scenario_xml.specs.declared.root.Head.{Head}
 use Rattle.scenario_xml.proofs.FirstFault.{first_of}
 use Rattle.scenario_xml.proofs.KnownAll.{known_is}
 use Rattle.scenario_xml.proofs.ReadOff.{nothing, is_read}
@@ -31,43 +33,43 @@ abbrev refused : {A : Type 0} {g f : ScenarioFault} → g ≡ f → ◌≡◌ {A
 refused e = ap (λ (d : ScenarioFault). Err d) e
 
 -- a child of the root that is refused
-child_fault : (doc : Document) (f : ScenarioFault) → contents doc ≡ Err f → IsChildFault doc f
+child_fault : (doc : Document) (version : Version) (f : ScenarioFault) → contents doc version ≡ Err f → IsChildFault doc version f
 unfolding contents
-child_fault doc f e =
-    let stop : read_nodes (content_step doc) (children doc 0) (nothing doc) ≡ Err f = rw (known_is doc) at e in
-    let w : IsFirstFault (content_step doc) (children doc 0) (nothing doc) f = first_of (λ (_ : ScenarioFault). false) (λ (s : Contents). s) (Err f) (content_step doc) (children doc 0) (nothing doc) stop in
-    record { before = w.before; node = w.node; after = w.after; state = w.state; cut = w.cut; fine = is_read doc w.before w.state w.fine; refused = refusal doc w.node w.state f w.refused }
+child_fault doc version f e =
+    let stop : read_nodes (content_step doc) (children doc 0) (nothing doc version) ≡ Err f = rw (known_is doc) at e in
+    let w : IsFirstFault (content_step doc) (children doc 0) (nothing doc version) f = first_of (λ (_ : ScenarioFault). false) (λ (s : Contents). s) (Err f) (content_step doc) (children doc 0) (nothing doc version) stop in
+    record { before = w.before; node = w.node; after = w.after; state = w.state; cut = w.cut; fine = is_read doc version w.before w.state w.fine; refused = refusal doc w.node w.state f w.refused }
 
 empty_when : {X : Type 0} (xs : List X) → length xs ≡ 0 → xs ≡ []
 empty_when [] e = refl
 empty_when (x ∷ xs) e = absurd (omega arith)
 
-no_problem : (doc : Document) (step : ℤ) (s : Contents) (t : Scenario) (f : ScenarioFault) (none : Bool) → eqb (length s.problems) 0 ≡ none → root doc ≡ Ok step → IsRead doc (children doc 0) s
+no_problem : (doc : Document) (head : Head) (s : Contents) (t : Scenario) (f : ScenarioFault) (none : Bool) → eqb (length s.problems) 0 ≡ none → root doc ≡ Ok head → IsRead doc head.version (children doc 0) s
     → All (IsRegionKnown (ids_in doc)) (regions_of s.problems) → cond none (Err NoProblem) (Ok t) ≡ Err f → IsFirstFaultOf doc f
-no_problem doc step s t f true h top held known e =
+no_problem doc head s t f true h top held known e =
     subst (λ (g : ScenarioFault). IsFirstFaultOf doc g) (same_fault {A = Scenario} (Err NoProblem) NoProblem f refl e)
-    (in_whole step s top held known (empty_when s.problems (eqb-true (length s.problems) 0 h)))
-no_problem doc step s t f false h top held known e = absurd cc
+    (in_whole head s top held known (empty_when s.problems (eqb-true (length s.problems) 0 h)))
+no_problem doc head s t f false h top held known e = absurd cc
 
-whole_fault : (doc : Document) (step : ℤ) (s : Contents) (f : ScenarioFault) (o : Option ℕ) → first_in (unknown_in_problem s.known) s.problems ≡ o → root doc ≡ Ok step → IsRead doc (children doc 0) s
-    → none_unknown step s o ≡ Err f → IsFirstFaultOf doc f
-whole_fault doc step s f (Some id) h top held e =
+whole_fault : (doc : Document) (head : Head) (s : Contents) (f : ScenarioFault) (o : Option ℕ) → first_in (unknown_in_problem s.known) s.problems ≡ o → root doc ≡ Ok head → IsRead doc head.version (children doc 0) s
+    → none_unknown head.step_micros s o ≡ Err f → IsFirstFaultOf doc f
+whole_fault doc head s f (Some id) h top held e =
     let w = first_unknown s.known (regions_of s.problems) id (sym (found_of s.known s.problems) ∙ h) in
     subst (λ (g : ScenarioFault). IsFirstFaultOf doc g) (same_fault {A = Scenario} (Err (UnknownRef id)) (UnknownRef id) f refl e)
-    (in_region step s id top held (subst (λ (ids : List ℕ). IsFirstUnknown ids (regions_of s.problems) id) held.known w))
-whole_fault doc step s f None h top held e =
+    (in_region head s id top held (subst (λ (ids : List ℕ). IsFirstUnknown ids (regions_of s.problems) id) held.known w))
+whole_fault doc head s f None h top held e =
     let all = all_known s.known (regions_of s.problems) (sym (found_of s.known s.problems) ∙ h) in
     let known = subst (λ (ids : List ℕ). All (IsRegionKnown ids) (regions_of s.problems)) held.known all in
-    no_problem doc step s _ f (eqb (length s.problems) 0) refl top held known e
+    no_problem doc head s _ f (eqb (length s.problems) 0) refl top held known e
 
-contents_fault : (doc : Document) (step : ℤ) (f : ScenarioFault) (r : Result Contents ScenarioFault) → contents doc ≡ r → root doc ≡ Ok step → (r >>= whole step) ≡ Err f → IsFirstFaultOf doc f
+contents_fault : (doc : Document) (head : Head) (f : ScenarioFault) (r : Result Contents ScenarioFault) → contents doc head.version ≡ r → root doc ≡ Ok head → (r >>= whole head.step_micros) ≡ Err f → IsFirstFaultOf doc f
 unfolding whole
-contents_fault doc step f (Ok s) h top e = whole_fault doc step s f (first_in (unknown_in_problem s.known) s.problems) refl top (contents_are doc s h) e
-contents_fault doc step f (Err g) h top e = in_child step f top (child_fault doc f (h ∙ refused {A = Contents} (same_fault {A = Scenario} (Err g) g f refl e)))
+contents_fault doc head f (Ok s) h top e = whole_fault doc head s f (first_in (unknown_in_problem s.known) s.problems) refl top (contents_are doc head.version s h) e
+contents_fault doc head f (Err g) h top e = in_child head f top (child_fault doc head.version f (h ∙ refused {A = Contents} (same_fault {A = Scenario} (Err g) g f refl e)))
 
-root_fault : (doc : Document) (f : ScenarioFault) (r : Result ℤ ScenarioFault) → root doc ≡ r → (r >>= λ step. contents doc >>= whole step) ≡ Err f → IsFirstFaultOf doc f
-root_fault doc f (Ok step) h e = contents_fault doc step f (contents doc) refl h e
-root_fault doc f (Err g) h e = in_root f (h ∙ refused {A = ℤ} (same_fault {A = Scenario} (Err g) g f refl e))
+root_fault : (doc : Document) (f : ScenarioFault) (r : Result Head ScenarioFault) → root doc ≡ r → (r >>= λ head. contents doc head.version >>= whole head.step_micros) ≡ Err f → IsFirstFaultOf doc f
+root_fault doc f (Ok head) h e = contents_fault doc head f (contents doc head.version) refl h e
+root_fault doc f (Err g) h e = in_root f (h ∙ refused {A = Head} (same_fault {A = Scenario} (Err g) g f refl e))
 
 document_fault : (doc : Document) (f : ScenarioFault) → scenario_in doc ≡ Err f → IsFirstFaultOf doc f
 unfolding scenario_in

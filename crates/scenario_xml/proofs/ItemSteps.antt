@@ -11,8 +11,8 @@ use Rattle.scenario_model.specs.declared.problem.Problem.{Problem}
 use Rattle.scenario_xml.specs.Elements.{wanted_child, id_attribute}
 use Rattle.scenario_xml.specs.Goals.{goals, problem}
 use Rattle.scenario_xml.specs.Lanelets.{bound, refs, adjacent, lanelet}
-use Rattle.scenario_xml.specs.Obstacles.{form, course, obstacle_unless, obstacle}
-use Rattle.scenario_xml.specs.ScenarioOf.{moves, IsLaneletAt, IsObstacleAt, IsProblemAt}
+use Rattle.scenario_xml.specs.Obstacles.{form, course, obstacle_unless, obstacle, moving, any_obstacle}
+use Rattle.scenario_xml.specs.ScenarioOf.{IsLaneletAt, IsObstacleAt, IsProblemAt}
 use Rattle.scenario_xml.specs.Scenarios.{has_id, new_id, lanelet_step, obstacle_step, problem_step}
 use Rattle.scenario_xml.specs.States.{pose}
 use Rattle.scenario_xml.specs.declared.contents.Contents.{Contents}
@@ -49,6 +49,13 @@ obstacle_case doc k id moving o None e =
 obstacle_is : (doc : Document) (k id : ℕ) (moving : Bool) (o : Obstacle) → obstacle doc k id moving ≡ Ok o → (o.id ≡ id) × (o.moving ≡ moving)
 unfolding obstacle
 obstacle_is doc k id moving o e = obstacle_case doc k id moving o _ e
+
+obstacle_at : (doc : Document) (k id : ℕ) (o : Obstacle) → any_obstacle doc k id ≡ Ok o → (o.id ≡ id) × (moving doc k ≡ Ok o.moving) × (obstacle doc k id o.moving ≡ Ok o)
+unfolding any_obstacle
+obstacle_at doc k id o e =
+    let told = bind_ok (moving doc k) _ o e in
+    let is = obstacle_is doc k id told.0 o told.2 in
+    (is.0, told.1 ∙ ap (λ (b : Bool). Ok b) (sym is.1), subst (λ (b : Bool). obstacle doc k id b ≡ Ok o) (sym is.1) told.2)
 
 id_of_problem : (doc : Document) (k id : ℕ) (p : Problem) → problem doc k id ≡ Ok p → p.id ≡ id
 unfolding problem
@@ -121,18 +128,13 @@ lanelet_is_added doc k s t e =
     let w = is_added 4000 (TooMany kind.Lanelet) (λ (l : Lanelet). l.id) s.lanelets (id_attribute doc k wanted.Id) (λ id. lanelet doc k id s.known) (λ l. record s { lanelets = s.lanelets ++ l ∷ [] }) (λ id l h. id_of_lanelet doc k id s.known l h) t e in
     record { item = w.item; read = record { id = w.id; content = w.content }; next = w.next; whole = w.whole }
 
-pub obstacle_is_added : (doc : Document) (k : ℕ) (s t : Contents) → obstacle_step doc k (moves doc k) s ≡ Ok t → AddsObstacle doc k s t
+pub obstacle_is_added : (doc : Document) (k : ℕ) (s t : Contents) → obstacle_step doc k s ≡ Ok t → AddsObstacle doc k s t
 unfolding obstacle_step new_id has_id
 obstacle_is_added doc k s t e =
-    let w = is_added 500 (TooMany kind.Obstacle) (λ (o : Obstacle). o.id) s.obstacles (id_attribute doc k wanted.Id) (λ id. obstacle doc k id (moves doc k)) (λ o. record s { obstacles = s.obstacles ++ o ∷ [] })
-    (λ id o h. (obstacle_is doc k id (moves doc k) o h).0) t e in
-    let moving = (obstacle_is doc k w.item.id (moves doc k) w.item w.content).1 in
-    record {
-      item = w.item;
-      read = record { id = w.id; moving = moving; content = rw moving w.content };
-      next = w.next;
-      whole = w.whole;
-    }
+    let w = is_added 500 (TooMany kind.Obstacle) (λ (o : Obstacle). o.id) s.obstacles (id_attribute doc k wanted.Id) (λ id. any_obstacle doc k id) (λ o. record s { obstacles = s.obstacles ++ o ∷ [] })
+    (λ id o h. (obstacle_at doc k id o h).0) t e in
+    let is = obstacle_at doc k w.item.id w.item w.content in
+    record { item = w.item; read = record { id = w.id; moving = is.1; content = is.2 }; next = w.next; whole = w.whole }
 
 pub problem_is_added : (doc : Document) (k : ℕ) (s t : Contents) → problem_step doc k s ≡ Ok t → AddsProblem doc k s t
 unfolding problem_step new_id has_id
@@ -147,11 +149,11 @@ adds_lanelet doc k s l h next =
     adds 4000 (TooMany kind.Lanelet) (λ (l : Lanelet). l.id) s.lanelets (id_attribute doc k wanted.Id) (λ id. lanelet doc k id s.known) (λ l. record s { lanelets = s.lanelets ++ l ∷ [] }) l h.id h.content next
 
 pub adds_obstacle : (doc : Document) (k : ℕ) (s : Contents) (o : Obstacle) → IsObstacleAt doc k o → IsNext (λ (o : Obstacle). o.id) 500 s.obstacles o
-    → obstacle_step doc k (moves doc k) s ≡ Ok (record s { obstacles = s.obstacles ++ o ∷ [] })
-unfolding obstacle_step new_id has_id
+    → obstacle_step doc k s ≡ Ok (record s { obstacles = s.obstacles ++ o ∷ [] })
+unfolding obstacle_step new_id has_id any_obstacle
 adds_obstacle doc k s o h next =
-    let content : obstacle doc k o.id (moves doc k) ≡ Ok o = subst (λ (b : Bool). obstacle doc k o.id b ≡ Ok o) h.moving h.content in
-    adds 500 (TooMany kind.Obstacle) (λ (o : Obstacle). o.id) s.obstacles (id_attribute doc k wanted.Id) (λ id. obstacle doc k id (moves doc k)) (λ o. record s { obstacles = s.obstacles ++ o ∷ [] }) o h.id content next
+    let content : any_obstacle doc k o.id ≡ Ok o = rw h.moving h.content in
+    adds 500 (TooMany kind.Obstacle) (λ (o : Obstacle). o.id) s.obstacles (id_attribute doc k wanted.Id) (λ id. any_obstacle doc k id) (λ o. record s { obstacles = s.obstacles ++ o ∷ [] }) o h.id content next
 
 pub adds_problem : (doc : Document) (k : ℕ) (s : Contents) (p : Problem) → IsProblemAt doc k p → IsNext (λ (p : Problem). p.id) 64 s.problems p
     → problem_step doc k s ≡ Ok (record s { problems = s.problems ++ p ∷ [] })

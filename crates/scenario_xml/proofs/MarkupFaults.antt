@@ -15,14 +15,15 @@ use Rattle.scenario_model.specs.declared.lanelet.Lanelet.{Lanelet}
 use Rattle.scenario_model.specs.declared.obstacle.Obstacle.{Obstacle}
 use Rattle.scenario_model.specs.declared.problem.Problem.{Problem}
 use Rattle.scenario_model.specs.declared.scenario.Scenario.{Scenario}
+use Rattle.scenario_model.specs.declared.scenario.Version.{Version}
 use Rattle.scenario_xml.specs.Elements.{place, wanted_attribute, id_attribute}
 use Rattle.scenario_xml.specs.Faults.{is_memory, from_markup}
 use Rattle.scenario_xml.specs.Goals.{problem}
 use Rattle.scenario_xml.specs.Lanelets.{lanelet}
-use Rattle.scenario_xml.specs.Numbers.{number_in}
-use Rattle.scenario_xml.specs.Obstacles.{obstacle}
+use Rattle.scenario_xml.specs.Obstacles.{any_obstacle}
 use Rattle.scenario_xml.specs.ScenarioFaults.{IsMarkupTold}
-use Rattle.scenario_xml.specs.Scenarios.{has_id, new_id, lanelet_step, obstacle_step, problem_step, content_step, known_step, known, contents, in_version, root, first_in, unknown_in_problem, none_unknown, whole, scenario_in, shown, document, scenario}
+use Rattle.scenario_xml.specs.Scenarios.{has_id, new_id, lanelet_step, obstacle_step, problem_step, content_step, known_step, known, contents, tick_length, head_in, root, first_in, unknown_in_problem, none_unknown, whole, scenario_in, shown, document, scenario}
+use Rattle.scenario_xml.specs.Versions.{version_in, names_obstacle}
 use Rattle.scenario_xml.specs.declared.contents.Contents.{Contents}
 use Rattle.scenario_xml.specs.declared.fault.Kind.{Kind}
 use Rattle.scenario_xml.specs.declared.fault.Kind.TheVariants as kind
@@ -30,7 +31,7 @@ use Rattle.scenario_xml.specs.declared.fault.ScenarioFault.{ScenarioFault}
 use Rattle.scenario_xml.specs.declared.fault.ScenarioFault.TheVariants.{Markup, WrongRoot, WrongVersion, Missing, BadNumber, DuplicateId, UnknownRef, BadShape, BadBound, Unsupported, NoProblem, TooMany, NoMemory}
 use Rattle.scenario_xml.specs.declared.fault.Wanted.TheVariants as wanted
 use Rattle.scenario_xml.specs.declared.quantity.Quantity.TheVariants.{Step}
-use Rattle.scenario_xml.proofs.OwnFaults.{IsOwn, fine, chain, either, each, own_number_in, own_attribute, own_id, own_obstacle, own_lanelet, own_problem}
+use Rattle.scenario_xml.proofs.OwnFaults.{IsOwn, fine, chain, either, each, own_number_in, own_attribute, own_id, own_any_obstacle, own_lanelet, own_problem}
 
 own_new_id : {X : Type 0} (what : Kind) (limit : ℕ) (id_of : X → ℕ) (doc : Document) (k : ℕ) (items : List X) → IsOwn (new_id what limit id_of doc k items)
 unfolding new_id
@@ -44,11 +45,11 @@ own_lanelet_step doc k s =
     chain (new_id kind.Lanelet 4000 (λ (l : Lanelet). l.id) doc k s.lanelets) _ (own_new_id kind.Lanelet 4000 (λ (l : Lanelet). l.id) doc k s.lanelets)
     (λ id. chain (lanelet doc k id s.known) _ (own_lanelet doc k id s.known) (λ l. fine _))
 
-own_obstacle_step : (doc : Document) (k : ℕ) (moving : Bool) (s : Contents) → IsOwn (obstacle_step doc k moving s)
+own_obstacle_step : (doc : Document) (k : ℕ) (s : Contents) → IsOwn (obstacle_step doc k s)
 unfolding obstacle_step
-own_obstacle_step doc k moving s =
+own_obstacle_step doc k s =
     chain (new_id kind.Obstacle 500 (λ (o : Obstacle). o.id) doc k s.obstacles) _ (own_new_id kind.Obstacle 500 (λ (o : Obstacle). o.id) doc k s.obstacles)
-    (λ id. chain (obstacle doc k id moving) _ (own_obstacle doc k id moving) (λ o. fine _))
+    (λ id. chain (any_obstacle doc k id) _ (own_any_obstacle doc k id) (λ o. fine _))
 
 own_problem_step : (doc : Document) (k : ℕ) (s : Contents) → IsOwn (problem_step doc k s)
 unfolding problem_step
@@ -60,29 +61,32 @@ own_content_step : (doc : Document) (k : ℕ) (s : Contents) → IsOwn (content_
 unfolding content_step
 own_content_step doc k s =
     either (bytes_eq (name_of doc k) (codes "lanelet")) _ _ (own_lanelet_step doc k s)
-    (either (bytes_eq (name_of doc k) (codes "staticObstacle")) _ _ (own_obstacle_step doc k false s)
-    (either (bytes_eq (name_of doc k) (codes "dynamicObstacle")) _ _ (own_obstacle_step doc k true s)
-    (either (bytes_eq (name_of doc k) (codes "planningProblem")) _ _ (own_problem_step doc k s) (fine s))))
+    (either (names_obstacle s.version (name_of doc k)) _ _ (own_obstacle_step doc k s)
+    (either (bytes_eq (name_of doc k) (codes "planningProblem")) _ _ (own_problem_step doc k s) (fine s)))
 
 own_known_step : (doc : Document) (k : ℕ) (ids : List ℕ) → IsOwn (known_step doc k ids)
 unfolding known_step
 own_known_step doc k ids = either (bytes_eq (name_of doc k) (codes "lanelet")) _ _ (fine _) (fine ids)
 
-own_contents : (doc : Document) → IsOwn (contents doc)
+own_contents : (doc : Document) (version : Version) → IsOwn (contents doc version)
 unfolding contents known
-own_contents doc = chain _ _ (each (known_step doc) (children doc 0) [] (own_known_step doc)) (λ ids. each (content_step doc) (children doc 0) _ (own_content_step doc))
+own_contents doc version = chain _ _ (each (known_step doc) (children doc 0) [] (own_known_step doc)) (λ ids. each (content_step doc) (children doc 0) _ (own_content_step doc))
 
-own_version : (doc : Document) (version : List ℕ) → IsOwn (in_version doc version)
-own_version doc version =
-    either (bytes_eq version (codes "2020a")) _ _
-    (chain (wanted_attribute doc 0 wanted.TimeStepSize) (number_in (place doc 0) Step) (own_attribute doc 0 wanted.TimeStepSize) (own_number_in (place doc 0) Step))
-    (record { own = λ f e. cc })
+own_version : (text : List ℕ) → IsOwn (version_in text)
+unfolding version_in
+own_version text = either (bytes_eq text (codes "2020a")) _ _ (fine _) (either (bytes_eq text (codes "2018b")) _ _ (fine _) (record { own = λ f e. cc }))
+
+own_tick : (doc : Document) → IsOwn (tick_length doc)
+unfolding tick_length
+own_tick doc = chain (wanted_attribute doc 0 wanted.TimeStepSize) _ (own_attribute doc 0 wanted.TimeStepSize) (own_number_in (place doc 0) Step)
 
 own_root : (doc : Document) → IsOwn (root doc)
 unfolding root
 own_root doc =
     either (bytes_eq (name_of doc 0) (codes "commonRoad")) _ _
-    (chain (wanted_attribute doc 0 wanted.CommonRoadVersion) (in_version doc) (own_attribute doc 0 wanted.CommonRoadVersion) (own_version doc)) (record { own = λ f e. cc })
+    (chain (wanted_attribute doc 0 wanted.CommonRoadVersion) _ (own_attribute doc 0 wanted.CommonRoadVersion)
+    (λ text. chain (version_in text) (head_in doc) (own_version text) (λ version. chain (tick_length doc) _ (own_tick doc) (λ step. fine _))))
+    (record { own = λ f e. cc })
 
 known_or_not : (step : ℤ) (s : Contents) (o : Option ℕ) → IsOwn (none_unknown step s o)
 known_or_not step s (Some id) = record { own = λ f e. cc }
@@ -94,7 +98,7 @@ own_whole step s = known_or_not step s (first_in (unknown_in_problem s.known) s.
 
 own_scenario : (doc : Document) → IsOwn (scenario_in doc)
 unfolding scenario_in
-own_scenario doc = chain (root doc) _ (own_root doc) (λ step. chain (contents doc) (whole step) (own_contents doc) (own_whole step))
+own_scenario doc = chain (root doc) _ (own_root doc) (λ head. chain (contents doc head.version) (whole head.step_micros) (own_contents doc head.version) (own_whole head.step_micros))
 
 -- the fault of a document of the markup that holds this one is this one, and not want of memory
 inside : (g m : MarkupFault) → from_markup g ≡ Markup m → (g ≡ m) × (m ≡ inner.NoMemory → ⊥)

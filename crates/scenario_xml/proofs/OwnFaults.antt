@@ -21,7 +21,7 @@ use Rattle.scenario_xml.specs.Faults.{word}
 use Rattle.scenario_xml.specs.Goals.{span_at, span, some_span, optional_span, heading_span, speed_span, ticks, is_region, any_region, with_region, region_step, some_regions, regions_at, regions, goal, goal_step, some_goals, goals, problem}
 use Rattle.scenario_xml.specs.Lanelets.{is_known, way_word, bound, ref_step, refs, adjacent_at, adjacent, lanelet}
 use Rattle.scenario_xml.specs.Numbers.{places, is_in_range, in_range, number_in, or_bad, id_in}
-use Rattle.scenario_xml.specs.Obstacles.{form, course, obstacle_unless, obstacle}
+use Rattle.scenario_xml.specs.Obstacles.{form, course, obstacle_unless, obstacle, moves_as, role, moving, any_obstacle}
 use Rattle.scenario_xml.specs.Shapes.{point, point_step, points, point_or_origin, center, is_extent, rectangle, circle, polygon, any_shape, with_shape, shape_step, some_shapes, shapes}
 use Rattle.scenario_xml.specs.States.{position, time_at, time, heading, speed, pose, state_step, states_at, states}
 use Rattle.scenario_xml.specs.declared.fault.ScenarioFault.{ScenarioFault}
@@ -229,19 +229,35 @@ own_form : (doc : Document) (k id : ℕ) → IsOwn (form doc k id)
 unfolding form
 own_form doc k id = chain (wanted_child doc k wanted.Shape) _ (own_child doc k wanted.Shape) (λ s. own_shapes doc s id)
 
-own_course : (doc : Document) (k : ℕ) (moving : Bool) → IsOwn (course doc k moving)
+own_course : (doc : Document) (k : ℕ) (moves : Bool) → IsOwn (course doc k moves)
 unfolding course
-own_course doc k moving =
+own_course doc k moves =
     chain (wanted_child doc k wanted.InitialState) _ (own_child doc k wanted.InitialState)
-    (λ i. chain (pose doc i moving) _ (own_pose doc i moving) (λ first. either moving _ _ (own_states doc k first) (fine _)))
+    (λ i. chain (pose doc i moves) _ (own_pose doc i moves) (λ first. either moves _ _ (own_states doc k first) (fine _)))
 
-unless : (doc : Document) (k id : ℕ) (moving : Bool) (o : Option ℕ) → IsOwn (obstacle_unless doc k id moving o)
-unless doc k id moving (Some c) = record { own = λ f e. cc }
-unless doc k id moving None = chain (form doc k id) _ (own_form doc k id) (λ all. chain (course doc k moving) _ (own_course doc k moving) (λ way. fine _))
+unless : (doc : Document) (k id : ℕ) (moves : Bool) (o : Option ℕ) → IsOwn (obstacle_unless doc k id moves o)
+unless doc k id moves (Some c) = record { own = λ f e. cc }
+unless doc k id moves None = chain (form doc k id) _ (own_form doc k id) (λ all. chain (course doc k moves) _ (own_course doc k moves) (λ way. fine _))
 
-pub own_obstacle : (doc : Document) (k id : ℕ) (moving : Bool) → IsOwn (obstacle doc k id moving)
+own_obstacle : (doc : Document) (k id : ℕ) (moves : Bool) → IsOwn (obstacle doc k id moves)
 unfolding obstacle
-own_obstacle doc k id moving = unless doc k id moving (child doc k (codes "occupancySet"))
+own_obstacle doc k id moves = unless doc k id moves (child doc k (codes "occupancySet"))
+
+as_text : (at : ℕ) (o : Option (List ℕ)) → IsOwn (moves_as at o)
+as_text at None = record { own = λ f e. cc }
+as_text at (Some text) = either (bytes_eq text (codes "static")) _ _ (fine false) (either (bytes_eq text (codes "dynamic")) _ _ (fine true) (record { own = λ f e. cc }))
+
+own_role : (doc : Document) (k : ℕ) → IsOwn (role doc k)
+unfolding role
+own_role doc k = chain (wanted_child doc k wanted.Role) _ (own_child doc k wanted.Role) (λ r. as_text (place doc r) (text_of doc r))
+
+own_moving : (doc : Document) (k : ℕ) → IsOwn (moving doc k)
+unfolding moving
+own_moving doc k = either (bytes_eq (name_of doc k) (codes "staticObstacle")) _ _ (fine false) (either (bytes_eq (name_of doc k) (codes "dynamicObstacle")) _ _ (fine true) (own_role doc k))
+
+pub own_any_obstacle : (doc : Document) (k id : ℕ) → IsOwn (any_obstacle doc k id)
+unfolding any_obstacle
+own_any_obstacle doc k id = chain (moving doc k) (obstacle doc k id) (own_moving doc k) (own_obstacle doc k id)
 
 -- lanelets
 own_bound : (doc : Document) (k id : ℕ) (what : Wanted) → IsOwn (bound doc k id what)

@@ -7,6 +7,7 @@ use Rattle.element_tree.proofs.ContentLaws.{bind_ok}
 use Rattle.scenario_model.specs.declared.lanelet.Lanelet.{Lanelet}
 use Rattle.scenario_model.specs.declared.obstacle.Obstacle.{Obstacle}
 use Rattle.scenario_model.specs.declared.problem.Problem.{Problem}
+use Rattle.scenario_model.specs.declared.scenario.Version.{Version}
 use Rattle.scenario_xml.specs.Children.{read_nodes}
 use Rattle.scenario_xml.specs.ScenarioFaults.{ids_in, IsRead}
 use Rattle.scenario_xml.specs.ScenarioOf.{is_lanelet, is_obstacle, is_problem, IsLaneletAt, IsObstacleAt, IsProblemAt, AreReadOff}
@@ -36,88 +37,94 @@ obstacle_id_of o = o.id
 abbrev problem_id_of : Problem → ℕ
 problem_id_of p = p.id
 
-module _ (doc : Document) (before : List ℕ) (k : ℕ) (s t : Contents) (h : IsRead doc before s) where
-  more_lanelets : is_lanelet doc k ≡ true → is_obstacle doc k ≡ false → is_problem doc k ≡ false → AddsLanelet doc k s t → IsRead doc (before ++ k ∷ []) t
+module _ (doc : Document) (version : Version) (before : List ℕ) (k : ℕ) (s t : Contents) (h : IsRead doc version before s) where
+  more_lanelets : is_lanelet doc k ≡ true → is_obstacle version doc k ≡ false → is_problem doc k ≡ false → AddsLanelet doc k s t → IsRead doc version (before ++ k ∷ []) t
   more_lanelets l o p w =
       let read = subst (λ (ids : List ℕ). IsLaneletAt doc ids k w.item) h.known w.read in
-      let P : Contents → Type 0 = λ u. IsRead doc (before ++ k ∷ []) u in
+      let P : Contents → Type 0 = λ u. IsRead doc version (before ++ k ∷ []) u in
       subst P (sym w.whole) (record {
+        same_version = h.same_version;
         known = h.known;
         items = record {
           lanelets = one_more (IsLaneletAt doc (ids_in doc)) lanelet_id_of 4000 (is_lanelet doc) before s.lanelets k w.item h.items.lanelets l read w.next;
-          obstacles = no_more (IsObstacleAt doc) obstacle_id_of 500 (is_obstacle doc) before s.obstacles k h.items.obstacles o;
+          obstacles = no_more (IsObstacleAt doc) obstacle_id_of 500 (is_obstacle version doc) before s.obstacles k h.items.obstacles o;
           problems = no_more (IsProblemAt doc) problem_id_of 64 (is_problem doc) before s.problems k h.items.problems p;
         };
       })
 
-  more_obstacles : is_lanelet doc k ≡ false → is_obstacle doc k ≡ true → is_problem doc k ≡ false → AddsObstacle doc k s t → IsRead doc (before ++ k ∷ []) t
+  more_obstacles : is_lanelet doc k ≡ false → is_obstacle version doc k ≡ true → is_problem doc k ≡ false → AddsObstacle doc k s t → IsRead doc version (before ++ k ∷ []) t
   more_obstacles l o p w =
-      let P : Contents → Type 0 = λ u. IsRead doc (before ++ k ∷ []) u in
+      let P : Contents → Type 0 = λ u. IsRead doc version (before ++ k ∷ []) u in
       subst P (sym w.whole) (record {
+        same_version = h.same_version;
         known = h.known;
         items = record {
           lanelets = no_more (IsLaneletAt doc (ids_in doc)) lanelet_id_of 4000 (is_lanelet doc) before s.lanelets k h.items.lanelets l;
-          obstacles = one_more (IsObstacleAt doc) obstacle_id_of 500 (is_obstacle doc) before s.obstacles k w.item h.items.obstacles o w.read w.next;
+          obstacles = one_more (IsObstacleAt doc) obstacle_id_of 500 (is_obstacle version doc) before s.obstacles k w.item h.items.obstacles o w.read w.next;
           problems = no_more (IsProblemAt doc) problem_id_of 64 (is_problem doc) before s.problems k h.items.problems p;
         };
       })
 
-  more_problems : is_lanelet doc k ≡ false → is_obstacle doc k ≡ false → is_problem doc k ≡ true → AddsProblem doc k s t → IsRead doc (before ++ k ∷ []) t
+  more_problems : is_lanelet doc k ≡ false → is_obstacle version doc k ≡ false → is_problem doc k ≡ true → AddsProblem doc k s t → IsRead doc version (before ++ k ∷ []) t
   more_problems l o p w =
-      let P : Contents → Type 0 = λ u. IsRead doc (before ++ k ∷ []) u in
+      let P : Contents → Type 0 = λ u. IsRead doc version (before ++ k ∷ []) u in
       subst P (sym w.whole) (record {
+        same_version = h.same_version;
         known = h.known;
         items = record {
           lanelets = no_more (IsLaneletAt doc (ids_in doc)) lanelet_id_of 4000 (is_lanelet doc) before s.lanelets k h.items.lanelets l;
-          obstacles = no_more (IsObstacleAt doc) obstacle_id_of 500 (is_obstacle doc) before s.obstacles k h.items.obstacles o;
+          obstacles = no_more (IsObstacleAt doc) obstacle_id_of 500 (is_obstacle version doc) before s.obstacles k h.items.obstacles o;
           problems = one_more (IsProblemAt doc) problem_id_of 64 (is_problem doc) before s.problems k w.item h.items.problems p w.read w.next;
         };
       })
 
-  as_before : is_lanelet doc k ≡ false → is_obstacle doc k ≡ false → is_problem doc k ≡ false → t ≡ s → IsRead doc (before ++ k ∷ []) t
+  as_before : is_lanelet doc k ≡ false → is_obstacle version doc k ≡ false → is_problem doc k ≡ false → t ≡ s → IsRead doc version (before ++ k ∷ []) t
   as_before l o p same =
-      let P : Contents → Type 0 = λ u. IsRead doc (before ++ k ∷ []) u in
+      let P : Contents → Type 0 = λ u. IsRead doc version (before ++ k ∷ []) u in
       subst P (sym same) (record {
+        same_version = h.same_version;
         known = h.known;
         items = record {
           lanelets = no_more (IsLaneletAt doc (ids_in doc)) lanelet_id_of 4000 (is_lanelet doc) before s.lanelets k h.items.lanelets l;
-          obstacles = no_more (IsObstacleAt doc) obstacle_id_of 500 (is_obstacle doc) before s.obstacles k h.items.obstacles o;
+          obstacles = no_more (IsObstacleAt doc) obstacle_id_of 500 (is_obstacle version doc) before s.obstacles k h.items.obstacles o;
           problems = no_more (IsProblemAt doc) problem_id_of 64 (is_problem doc) before s.problems k h.items.problems p;
         };
       })
 
-  by_sort : Sort doc k → content_step doc k s ≡ Ok t → IsRead doc (before ++ k ∷ []) t
-  by_sort (a_lanelet l o p step) e = more_lanelets l o p (lanelet_is_added doc k s t (sym (step s) ∙ e))
-  by_sort (an_obstacle l o p step) e = more_obstacles l o p (obstacle_is_added doc k s t (sym (step s) ∙ e))
-  by_sort (a_problem l o p step) e = more_problems l o p (problem_is_added doc k s t (sym (step s) ∙ e))
-  by_sort (another l o p step) e = as_before l o p (same_value (content_step doc k s) t s e (step s))
+  by_sort : Sort version doc k → content_step doc k s ≡ Ok t → IsRead doc version (before ++ k ∷ []) t
+  by_sort (a_lanelet l o p step) e = more_lanelets l o p (lanelet_is_added doc k s t (sym (step s h.same_version) ∙ e))
+  by_sort (an_obstacle l o p step) e = more_obstacles l o p (obstacle_is_added doc k s t (sym (step s h.same_version) ∙ e))
+  by_sort (a_problem l o p step) e = more_problems l o p (problem_is_added doc k s t (sym (step s h.same_version) ∙ e))
+  by_sort (another l o p step) e = as_before l o p (same_value (content_step doc k s) t s e (step s h.same_version))
 
 -- before any child
-abbrev pub nothing : Document → Contents
-nothing doc = record { known = ids_in doc; lanelets = []; obstacles = []; problems = [] }
+abbrev pub nothing : Document → Version → Contents
+nothing doc version = record { version = version; known = ids_in doc; lanelets = []; obstacles = []; problems = [] }
 
-nothing_is_read : (doc : Document) → IsRead doc [] (nothing doc)
-nothing_is_read doc = record {
+nothing_is_read : (doc : Document) (version : Version) → IsRead doc version [] (nothing doc version)
+nothing_is_read doc version = record {
+  same_version = refl;
   known = refl;
   items = record {
     lanelets = none_yet (IsLaneletAt doc (ids_in doc)) lanelet_id_of 4000 (is_lanelet doc);
-    obstacles = none_yet (IsObstacleAt doc) obstacle_id_of 500 (is_obstacle doc);
+    obstacles = none_yet (IsObstacleAt doc) obstacle_id_of 500 (is_obstacle version doc);
     problems = none_yet (IsProblemAt doc) problem_id_of 64 (is_problem doc);
   };
 }
 
 -- what was read of some children is read off them
-pub is_read : (doc : Document) (ks : List ℕ) (t : Contents) → read_nodes (content_step doc) ks (nothing doc) ≡ Ok t → IsRead doc ks t
-is_read doc ks t e = holds_on (content_step doc) (IsRead doc) (λ before k s u h step. by_sort doc before k s u h (sort_of doc k) step) ks [] (nothing doc) t (nothing_is_read doc) e
+pub is_read : (doc : Document) (version : Version) (ks : List ℕ) (t : Contents) → read_nodes (content_step doc) ks (nothing doc version) ≡ Ok t → IsRead doc version ks t
+is_read doc version ks t e =
+    holds_on (content_step doc) (IsRead doc version) (λ before k s u h step. by_sort doc version before k s u h (sort_of version doc k) step) ks [] (nothing doc version) t (nothing_is_read doc version) e
 
 -- These are still to come, read off these children of the root.
 record AreAllToCome (doc : Document) (ks : List ℕ) (s : Contents) (ls : List Lanelet) (os : List Obstacle) (ps : List Problem) : Type 0 where
   pub lanelets : AreToCome (IsLaneletAt doc s.known) lanelet_id_of 4000 (filter (is_lanelet doc) ks) s.lanelets ls
-  pub obstacles : AreToCome (IsObstacleAt doc) obstacle_id_of 500 (filter (is_obstacle doc) ks) s.obstacles os
+  pub obstacles : AreToCome (IsObstacleAt doc) obstacle_id_of 500 (filter (is_obstacle s.version doc) ks) s.obstacles os
   pub problems : AreToCome (IsProblemAt doc) problem_id_of 64 (filter (is_problem doc) ks) s.problems ps
 
 abbrev ended : Contents → List Lanelet → List Obstacle → List Problem → Result Contents ScenarioFault
-ended s ls os ps = Ok (record { known = s.known; lanelets = s.lanelets ++ ls; obstacles = s.obstacles ++ os; problems = s.problems ++ ps })
+ended s ls os ps = Ok (record { version = s.version; known = s.known; lanelets = s.lanelets ++ ls; obstacles = s.obstacles ++ os; problems = s.problems ++ ps })
 
 goes_on : {S F : Type 0} (step : ℕ → S → Result S F) (k : ℕ) (ks : List ℕ) (s t : S) (r : Result S F) → step k s ≡ Ok t → read_nodes step ks t ≡ r → read_nodes step (k ∷ ks) s ≡ r
 unfolding read_nodes
@@ -128,44 +135,44 @@ pushed xs x others all e = append_assoc xs (x ∷ []) others ∙ ap (λ (ys : Li
 
 module _ (doc : Document) (k : ℕ) (ks : List ℕ) (again : (s : Contents) (ls : List Lanelet) (os : List Obstacle) (ps : List Problem) → AreAllToCome doc ks s ls os ps → read_nodes (content_step doc) ks s ≡ ended s ls os ps)
     (s : Contents) (ls : List Lanelet) (os : List Obstacle) (ps : List Problem) (h : AreAllToCome doc (k ∷ ks) s ls os ps) where
-  comes_next : Sort doc k → read_nodes (content_step doc) (k ∷ ks) s ≡ ended s ls os ps
+  comes_next : Sort s.version doc k → read_nodes (content_step doc) (k ∷ ks) s ≡ ended s ls os ps
   comes_next (a_lanelet l o p step) =
       let f = comes_first (IsLaneletAt doc s.known) lanelet_id_of 4000 (is_lanelet doc) k ks s.lanelets ls h.lanelets l in
       let t : Contents = record s { lanelets = s.lanelets ++ f.item ∷ [] } in
       let rest : AreAllToCome doc ks t f.others os ps = record {
         lanelets = f.after;
-        obstacles = comes_later (IsObstacleAt doc) obstacle_id_of 500 (is_obstacle doc) k ks s.obstacles os h.obstacles o;
+        obstacles = comes_later (IsObstacleAt doc) obstacle_id_of 500 (is_obstacle s.version doc) k ks s.obstacles os h.obstacles o;
         problems = comes_later (IsProblemAt doc) problem_id_of 64 (is_problem doc) k ks s.problems ps h.problems p;
       } in
-      goes_on (content_step doc) k ks s t (ended s ls os ps) (step s ∙ adds_lanelet doc k s f.item f.read f.next)
+      goes_on (content_step doc) k ks s t (ended s ls os ps) (step s refl ∙ adds_lanelet doc k s f.item f.read f.next)
       (again t f.others os ps rest ∙ ap (λ (all : List Lanelet). ended (record s { lanelets = [] }) all os ps) (pushed s.lanelets f.item f.others ls f.cut))
   comes_next (an_obstacle l o p step) =
-      let f = comes_first (IsObstacleAt doc) obstacle_id_of 500 (is_obstacle doc) k ks s.obstacles os h.obstacles o in
+      let f = comes_first (IsObstacleAt doc) obstacle_id_of 500 (is_obstacle s.version doc) k ks s.obstacles os h.obstacles o in
       let t : Contents = record s { obstacles = s.obstacles ++ f.item ∷ [] } in
       let rest : AreAllToCome doc ks t ls f.others ps = record {
         lanelets = comes_later (IsLaneletAt doc s.known) lanelet_id_of 4000 (is_lanelet doc) k ks s.lanelets ls h.lanelets l;
         obstacles = f.after;
         problems = comes_later (IsProblemAt doc) problem_id_of 64 (is_problem doc) k ks s.problems ps h.problems p;
       } in
-      goes_on (content_step doc) k ks s t (ended s ls os ps) (step s ∙ adds_obstacle doc k s f.item f.read f.next)
+      goes_on (content_step doc) k ks s t (ended s ls os ps) (step s refl ∙ adds_obstacle doc k s f.item f.read f.next)
       (again t ls f.others ps rest ∙ ap (λ (all : List Obstacle). ended (record s { obstacles = [] }) ls all ps) (pushed s.obstacles f.item f.others os f.cut))
   comes_next (a_problem l o p step) =
       let f = comes_first (IsProblemAt doc) problem_id_of 64 (is_problem doc) k ks s.problems ps h.problems p in
       let t : Contents = record s { problems = s.problems ++ f.item ∷ [] } in
       let rest : AreAllToCome doc ks t ls os f.others = record {
         lanelets = comes_later (IsLaneletAt doc s.known) lanelet_id_of 4000 (is_lanelet doc) k ks s.lanelets ls h.lanelets l;
-        obstacles = comes_later (IsObstacleAt doc) obstacle_id_of 500 (is_obstacle doc) k ks s.obstacles os h.obstacles o;
+        obstacles = comes_later (IsObstacleAt doc) obstacle_id_of 500 (is_obstacle s.version doc) k ks s.obstacles os h.obstacles o;
         problems = f.after;
       } in
-      goes_on (content_step doc) k ks s t (ended s ls os ps) (step s ∙ adds_problem doc k s f.item f.read f.next)
+      goes_on (content_step doc) k ks s t (ended s ls os ps) (step s refl ∙ adds_problem doc k s f.item f.read f.next)
       (again t ls os f.others rest ∙ ap (λ (all : List Problem). ended (record s { problems = [] }) ls os all) (pushed s.problems f.item f.others ps f.cut))
   comes_next (another l o p step) =
       let rest : AreAllToCome doc ks s ls os ps = record {
         lanelets = comes_later (IsLaneletAt doc s.known) lanelet_id_of 4000 (is_lanelet doc) k ks s.lanelets ls h.lanelets l;
-        obstacles = comes_later (IsObstacleAt doc) obstacle_id_of 500 (is_obstacle doc) k ks s.obstacles os h.obstacles o;
+        obstacles = comes_later (IsObstacleAt doc) obstacle_id_of 500 (is_obstacle s.version doc) k ks s.obstacles os h.obstacles o;
         problems = comes_later (IsProblemAt doc) problem_id_of 64 (is_problem doc) k ks s.problems ps h.problems p;
       } in
-      goes_on (content_step doc) k ks s s (ended s ls os ps) (step s) (again s ls os ps rest)
+      goes_on (content_step doc) k ks s s (ended s ls os ps) (step s refl) (again s ls os ps rest)
 
 all_read : (doc : Document) (ks : List ℕ) (s : Contents) (ls : List Lanelet) (os : List Obstacle) (ps : List Problem) → AreAllToCome doc ks s ls os ps
     → read_nodes (content_step doc) ks s ≡ ended s ls os ps
@@ -175,14 +182,14 @@ all_read doc [] s ls os ps h =
     let o = none_comes (IsObstacleAt doc) obstacle_id_of 500 s.obstacles os h.obstacles in
     let p = none_comes (IsProblemAt doc) problem_id_of 64 s.problems ps h.problems in
     rw (l, o, p, append-nil s.lanelets, append-nil s.obstacles, append-nil s.problems) refl
-all_read doc (k ∷ ks) s ls os ps h = comes_next doc k ks (all_read doc ks) s ls os ps h (sort_of doc k)
+all_read doc (k ∷ ks) s ls os ps h = comes_next doc k ks (all_read doc ks) s ls os ps h (sort_of s.version doc k)
 
 -- what may be read off all children is read
-pub reads_all : (doc : Document) (ks : List ℕ) (ls : List Lanelet) (os : List Obstacle) (ps : List Problem) → AreReadOff doc (ids_in doc) ks ls os ps
-    → read_nodes (content_step doc) ks (nothing doc) ≡ Ok (record { known = ids_in doc; lanelets = ls; obstacles = os; problems = ps })
-reads_all doc ks ls os ps h =
-    all_read doc ks (nothing doc) ls os ps (record {
+pub reads_all : (doc : Document) (version : Version) (ks : List ℕ) (ls : List Lanelet) (os : List Obstacle) (ps : List Problem) → AreReadOff version doc (ids_in doc) ks ls os ps
+    → read_nodes (content_step doc) ks (nothing doc version) ≡ Ok (record { version = version; known = ids_in doc; lanelets = ls; obstacles = os; problems = ps })
+reads_all doc version ks ls os ps h =
+    all_read doc ks (nothing doc version) ls os ps (record {
       lanelets = all_come (IsLaneletAt doc (ids_in doc)) lanelet_id_of 4000 (filter (is_lanelet doc) ks) ls h.lanelets;
-      obstacles = all_come (IsObstacleAt doc) obstacle_id_of 500 (filter (is_obstacle doc) ks) os h.obstacles;
+      obstacles = all_come (IsObstacleAt doc) obstacle_id_of 500 (filter (is_obstacle version doc) ks) os h.obstacles;
       problems = all_come (IsProblemAt doc) problem_id_of 64 (filter (is_problem doc) ks) ps h.problems;
     })

@@ -11,9 +11,9 @@ use Rattle.scenario_model.specs.declared.problem.Problem.{Problem}
 use Rattle.scenario_xml.specs.Elements.{id_attribute}
 use Rattle.scenario_xml.specs.Goals.{problem}
 use Rattle.scenario_xml.specs.Lanelets.{lanelet}
-use Rattle.scenario_xml.specs.Obstacles.{obstacle}
+use Rattle.scenario_xml.specs.Obstacles.{any_obstacle}
 use Rattle.scenario_xml.specs.ScenarioFaults.{IsItemRefused, too_many, without_id, same_id, in_content, IsRefused, as_lanelet, as_obstacle, as_problem}
-use Rattle.scenario_xml.specs.ScenarioOf.{is_lanelet, moves, is_obstacle, is_problem}
+use Rattle.scenario_xml.specs.ScenarioOf.{is_lanelet, is_obstacle, is_problem}
 use Rattle.scenario_xml.specs.Scenarios.{has_id, new_id, lanelet_step, obstacle_step, problem_step, content_step}
 use Rattle.scenario_xml.specs.declared.contents.Contents.{Contents}
 use Rattle.scenario_xml.specs.declared.fault.Kind.{Kind}
@@ -80,11 +80,11 @@ unfolding lanelet_step new_id has_id
 refused_lanelet doc k s f e =
     refused_by kind.Lanelet 4000 (λ (l : Lanelet). l.id) s.lanelets (id_attribute doc k wanted.Id) (λ id. lanelet doc k id s.known) (λ l. record s { lanelets = s.lanelets ++ l ∷ [] }) f e
 
-refused_obstacle : (doc : Document) (k : ℕ) (s : Contents) (f : ScenarioFault) → obstacle_step doc k (moves doc k) s ≡ Err f
-    → IsItemRefused kind.Obstacle 500 (λ (o : Obstacle). o.id) s.obstacles (id_attribute doc k wanted.Id) (λ id. obstacle doc k id (moves doc k)) f
+refused_obstacle : (doc : Document) (k : ℕ) (s : Contents) (f : ScenarioFault) → obstacle_step doc k s ≡ Err f
+    → IsItemRefused kind.Obstacle 500 (λ (o : Obstacle). o.id) s.obstacles (id_attribute doc k wanted.Id) (λ id. any_obstacle doc k id) f
 unfolding obstacle_step new_id has_id
 refused_obstacle doc k s f e =
-    refused_by kind.Obstacle 500 (λ (o : Obstacle). o.id) s.obstacles (id_attribute doc k wanted.Id) (λ id. obstacle doc k id (moves doc k)) (λ o. record s { obstacles = s.obstacles ++ o ∷ [] }) f e
+    refused_by kind.Obstacle 500 (λ (o : Obstacle). o.id) s.obstacles (id_attribute doc k wanted.Id) (λ id. any_obstacle doc k id) (λ o. record s { obstacles = s.obstacles ++ o ∷ [] }) f e
 
 refused_problem : (doc : Document) (k : ℕ) (s : Contents) (f : ScenarioFault) → problem_step doc k s ≡ Err f
     → IsItemRefused kind.Problem 64 (λ (p : Problem). p.id) s.problems (id_attribute doc k wanted.Id) (λ id. problem doc k id) f
@@ -92,32 +92,32 @@ unfolding problem_step new_id has_id
 refused_problem doc k s f e =
     refused_by kind.Problem 64 (λ (p : Problem). p.id) s.problems (id_attribute doc k wanted.Id) (λ id. problem doc k id) (λ p. record s { problems = s.problems ++ p ∷ [] }) f e
 
-by_sort : (doc : Document) (k : ℕ) (s : Contents) (f : ScenarioFault) → Sort doc k → content_step doc k s ≡ Err f → IsRefused doc k s f
-by_sort doc k s f (a_lanelet is other third same) e = as_lanelet is (refused_lanelet doc k s f (sym (same s) ∙ e))
-by_sort doc k s f (an_obstacle other is third same) e = as_obstacle is (refused_obstacle doc k s f (sym (same s) ∙ e))
-by_sort doc k s f (a_problem other third is same) e = as_problem is (refused_problem doc k s f (sym (same s) ∙ e))
-by_sort doc k s f (another other third fourth same) e = let read = same s in absurd cc
+by_sort : (doc : Document) (k : ℕ) (s : Contents) (f : ScenarioFault) → Sort s.version doc k → content_step doc k s ≡ Err f → IsRefused doc k s f
+by_sort doc k s f (a_lanelet is other third same) e = as_lanelet is (refused_lanelet doc k s f (sym (same s refl) ∙ e))
+by_sort doc k s f (an_obstacle other is third same) e = as_obstacle is (refused_obstacle doc k s f (sym (same s refl) ∙ e))
+by_sort doc k s f (a_problem other third is same) e = as_problem is (refused_problem doc k s f (sym (same s refl) ∙ e))
+by_sort doc k s f (another other third fourth same) e = let read = same s refl in absurd cc
 
 -- what the definition refuses is refused for one of the reasons
 pub refusal : (doc : Document) (k : ℕ) (s : Contents) (f : ScenarioFault) → content_step doc k s ≡ Err f → IsRefused doc k s f
-refusal doc k s f e = by_sort doc k s f (sort_of doc k) e
+refusal doc k s f e = by_sort doc k s f (sort_of s.version doc k) e
 
-at_lanelet : (doc : Document) (k : ℕ) (s : Contents) → Sort doc k → is_lanelet doc k ≡ true → content_step doc k s ≡ lanelet_step doc k s
-at_lanelet doc k s (a_lanelet is other third same) h = same s
+at_lanelet : (doc : Document) (k : ℕ) (s : Contents) → Sort s.version doc k → is_lanelet doc k ≡ true → content_step doc k s ≡ lanelet_step doc k s
+at_lanelet doc k s (a_lanelet is other third same) h = same s refl
 at_lanelet doc k s (an_obstacle other is third same) h = absurd cc
 at_lanelet doc k s (a_problem other third is same) h = absurd cc
 at_lanelet doc k s (another other third fourth same) h = absurd cc
 
-at_obstacle : (doc : Document) (k : ℕ) (s : Contents) → Sort doc k → is_obstacle doc k ≡ true → content_step doc k s ≡ obstacle_step doc k (moves doc k) s
+at_obstacle : (doc : Document) (k : ℕ) (s : Contents) → Sort s.version doc k → is_obstacle s.version doc k ≡ true → content_step doc k s ≡ obstacle_step doc k s
 at_obstacle doc k s (a_lanelet is other third same) h = absurd cc
-at_obstacle doc k s (an_obstacle other is third same) h = same s
+at_obstacle doc k s (an_obstacle other is third same) h = same s refl
 at_obstacle doc k s (a_problem other third is same) h = absurd cc
 at_obstacle doc k s (another other third fourth same) h = absurd cc
 
-at_problem : (doc : Document) (k : ℕ) (s : Contents) → Sort doc k → is_problem doc k ≡ true → content_step doc k s ≡ problem_step doc k s
+at_problem : (doc : Document) (k : ℕ) (s : Contents) → Sort s.version doc k → is_problem doc k ≡ true → content_step doc k s ≡ problem_step doc k s
 at_problem doc k s (a_lanelet is other third same) h = absurd cc
 at_problem doc k s (an_obstacle other is third same) h = absurd cc
-at_problem doc k s (a_problem other third is same) h = same s
+at_problem doc k s (a_problem other third is same) h = same s refl
 at_problem doc k s (another other third fourth same) h = absurd cc
 
 lanelet_told : (doc : Document) (k : ℕ) (s : Contents) (f : ScenarioFault)
@@ -127,11 +127,11 @@ lanelet_told doc k s f h =
     is_told kind.Lanelet 4000 (λ (l : Lanelet). l.id) s.lanelets (id_attribute doc k wanted.Id) (λ id. lanelet doc k id s.known) (λ l. record s { lanelets = s.lanelets ++ l ∷ [] }) f h
 
 obstacle_told : (doc : Document) (k : ℕ) (s : Contents) (f : ScenarioFault)
-    → IsItemRefused kind.Obstacle 500 (λ (o : Obstacle). o.id) s.obstacles (id_attribute doc k wanted.Id) (λ id. obstacle doc k id (moves doc k)) f
-    → obstacle_step doc k (moves doc k) s ≡ Err f
+    → IsItemRefused kind.Obstacle 500 (λ (o : Obstacle). o.id) s.obstacles (id_attribute doc k wanted.Id) (λ id. any_obstacle doc k id) f
+    → obstacle_step doc k s ≡ Err f
 unfolding obstacle_step new_id has_id
 obstacle_told doc k s f h =
-    is_told kind.Obstacle 500 (λ (o : Obstacle). o.id) s.obstacles (id_attribute doc k wanted.Id) (λ id. obstacle doc k id (moves doc k)) (λ o. record s { obstacles = s.obstacles ++ o ∷ [] }) f h
+    is_told kind.Obstacle 500 (λ (o : Obstacle). o.id) s.obstacles (id_attribute doc k wanted.Id) (λ id. any_obstacle doc k id) (λ o. record s { obstacles = s.obstacles ++ o ∷ [] }) f h
 
 problem_told : (doc : Document) (k : ℕ) (s : Contents) (f : ScenarioFault)
     → IsItemRefused kind.Problem 64 (λ (p : Problem). p.id) s.problems (id_attribute doc k wanted.Id) (λ id. problem doc k id) f → problem_step doc k s ≡ Err f
@@ -141,6 +141,6 @@ problem_told doc k s f h =
 
 -- what is refused for one of the reasons the definition refuses
 pub is_refused : (doc : Document) (k : ℕ) (s : Contents) (f : ScenarioFault) → IsRefused doc k s f → content_step doc k s ≡ Err f
-is_refused doc k s f (as_lanelet is h) = at_lanelet doc k s (sort_of doc k) is ∙ lanelet_told doc k s f h
-is_refused doc k s f (as_obstacle is h) = at_obstacle doc k s (sort_of doc k) is ∙ obstacle_told doc k s f h
-is_refused doc k s f (as_problem is h) = at_problem doc k s (sort_of doc k) is ∙ problem_told doc k s f h
+is_refused doc k s f (as_lanelet is h) = at_lanelet doc k s (sort_of s.version doc k) is ∙ lanelet_told doc k s f h
+is_refused doc k s f (as_obstacle is h) = at_obstacle doc k s (sort_of s.version doc k) is ∙ obstacle_told doc k s f h
+is_refused doc k s f (as_problem is h) = at_problem doc k s (sort_of s.version doc k) is ∙ problem_told doc k s f h

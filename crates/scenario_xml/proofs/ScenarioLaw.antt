@@ -17,72 +17,98 @@ use Rattle.element_tree.proofs.ContentLaws.{bind_ok, else_ok, then_ok}
 use Rattle.reading.specs.Reading.{◌>>=◌, Gives}
 use Rattle.scenario_model.specs.Scenario.{lanelet_ids}
 use Rattle.scenario_model.specs.declared.scenario.Scenario.{Scenario}
-use Rattle.scenario_model.specs.declared.scenario.Version.TheVariants.{V2020a}
+use Rattle.scenario_model.specs.declared.scenario.Version.{Version}
+use Rattle.scenario_model.specs.declared.scenario.Version.TheVariants.{V2020a, V2018b}
 use Rattle.scenario_xml.specs.Elements.{place, or_missing, wanted_attribute}
 use Rattle.scenario_xml.specs.Faults.{is_memory}
-use Rattle.scenario_xml.specs.Numbers.{number_in}
 use Rattle.scenario_xml.specs.ScenarioFaults.{ids_in, IsRead}
 use Rattle.scenario_xml.specs.ScenarioOf.{AreReadOff, regions_of, IsRegionKnown, IsScenarioOf, IsScenarioIn, IsOnlyScenarioIn, IsNoScenario}
-use Rattle.scenario_xml.specs.Scenarios.{known, contents, in_version, root, first_in, unknown_in_problem, none_unknown, whole, scenario_in, shown, document, scenario}
+use Rattle.scenario_xml.specs.Scenarios.{known, contents, tick_length, head_in, root, first_in, unknown_in_problem, none_unknown, whole, scenario_in, shown, document, scenario}
+use Rattle.scenario_xml.specs.Versions.{version_text, version_in}
 use Rattle.scenario_xml.specs.declared.contents.Contents.{Contents}
 use Rattle.scenario_xml.specs.declared.fault.ScenarioFault.{ScenarioFault}
-use Rattle.scenario_xml.specs.declared.fault.ScenarioFault.TheVariants.{WrongRoot, WrongVersion, NoProblem}
+use Rattle.scenario_xml.specs.declared.fault.ScenarioFault.TheVariants.{WrongRoot, NoProblem}
 use Rattle.scenario_xml.specs.declared.fault.Wanted.{Wanted}
 use Rattle.scenario_xml.specs.declared.fault.Wanted.TheVariants as wanted
-use Rattle.scenario_xml.specs.declared.quantity.Quantity.TheVariants.{Step}
+use Rattle.scenario_xml.specs.declared.root.Head.{Head}
 use Rattle.scenario_xml.proofs.ItemSteps.{same_value}
 use Rattle.scenario_xml.proofs.KnownAll.{known_is, ids_are}
 use Rattle.scenario_xml.proofs.ReadOff.{is_read, reads_all}
 use Rattle.scenario_xml.proofs.Regions.{found_of, all_known, none_unknown as none_found}
 
 -- the root of a document that is read
-pub record IsRoot (doc : Document) (step : ℤ) : Type 0 where
+pub record IsRoot (doc : Document) (head : Head) : Type 0 where
   pub name : name_of doc 0 ≡ codes "commonRoad"
-  pub version : value_of (codes "commonRoadVersion") (attributes_of doc 0) ≡ Some (codes "2020a")
-  pub tick : (wanted_attribute doc 0 wanted.TimeStepSize >>= number_in (place doc 0) Step) ≡ Ok step
+  pub version : value_of (codes "commonRoadVersion") (attributes_of doc 0) ≡ Some (version_text head.version)
+  pub tick : tick_length doc ≡ Ok head.step_micros
+
+-- the version that a text is, is written so
+version_case : (text : List ℕ) (version : Version) (a b : Bool) → bytes_eq text (codes "2020a") ≡ a → bytes_eq text (codes "2018b") ≡ b → version_in text ≡ Ok version → text ≡ version_text version
+unfolding version_in
+version_case text V2020a true b e f h = (bytes_eq-Decides text (codes "2020a")).0 e
+version_case text V2018b true b e f h = absurd cc
+version_case text V2020a false true e f h = absurd cc
+version_case text V2018b false true e f h = (bytes_eq-Decides text (codes "2018b")).0 f
+version_case text version false false e f h = absurd cc
+
+version_is : (text : List ℕ) (version : Version) → version_in text ≡ Ok version → text ≡ version_text version
+version_is text version e = version_case text version (bytes_eq text (codes "2020a")) (bytes_eq text (codes "2018b")) refl refl e
+
+version_reads : (version : Version) → version_in (version_text version) ≡ Ok version
+unfolding version_in
+version_reads V2020a = refl
+version_reads V2018b = refl
 
 there : {X : Type 0} (what : Wanted) (at : ℕ) (o : Option X) (x : X) → or_missing what at o ≡ Ok x → o ≡ Some x
 there what at None x e = absurd cc
 there what at (Some y) x e = cc
 
-root_is : (doc : Document) (step : ℤ) → root doc ≡ Ok step → IsRoot doc step
+root_is : (doc : Document) (head : Head) → root doc ≡ Ok head → IsRoot doc head
 unfolding root wanted_attribute
-root_is doc step e =
-    let named = then_ok (bytes_eq (name_of doc 0) (codes "commonRoad")) WrongRoot _ step e in
-    let told = bind_ok (wanted_attribute doc 0 wanted.CommonRoadVersion) (in_version doc) step named.1 in
-    let right = then_ok (bytes_eq told.0 (codes "2020a")) WrongVersion _ step told.2 in
-    let same = (bytes_eq-Decides told.0 (codes "2020a")).0 right.0 in
-    let found = there wanted.CommonRoadVersion (place doc 0) (value_of (codes "commonRoadVersion") (attributes_of doc 0)) told.0 told.1 in
-    record {
+root_is doc head e =
+    let named = then_ok (bytes_eq (name_of doc 0) (codes "commonRoad")) WrongRoot _ head e in
+    let text = bind_ok (wanted_attribute doc 0 wanted.CommonRoadVersion) _ head named.1 in
+    let version = bind_ok (version_in text.0) (head_in doc) head text.2 in
+    let step = bind_ok (tick_length doc) _ head version.2 in
+    let found = there wanted.CommonRoadVersion (place doc 0) (value_of (codes "commonRoadVersion") (attributes_of doc 0)) text.0 text.1 in
+    let whole : Head = record { version = version.0; step_micros = step.0 } in
+    subst (λ (h : Head). IsRoot doc h) (same_value (Ok whole) whole head refl step.2) (record {
       name = (bytes_eq-Decides (name_of doc 0) (codes "commonRoad")).0 named.0;
-      version = found ∙ ap (λ (v : List ℕ). Some v) same;
-      tick = right.1;
-    }
+      version = found ∙ ap (λ (v : List ℕ). Some v) (version_is text.0 version.0 version.1);
+      tick = step.1;
+    })
 
-root_reads : (doc : Document) (step : ℤ) → IsRoot doc step → root doc ≡ Ok step
+root_reads : (doc : Document) (head : Head) → IsRoot doc head → root doc ≡ Ok head
 unfolding root wanted_attribute
-root_reads doc step h =
+root_reads doc head h =
     let named : bytes_eq (name_of doc 0) (codes "commonRoad") ≡ true = (bytes_eq-Decides (name_of doc 0) (codes "commonRoad")).1 h.name in
-    rw (named, h.version) h.tick
+    let step : tick_length doc ≡ Ok head.step_micros = h.tick in
+    rw (named, h.version, version_reads head.version, step) refl
 
 -- all children of the root
-pub contents_are : (doc : Document) (s : Contents) → contents doc ≡ Ok s → IsRead doc (children doc 0) s
+pub contents_are : (doc : Document) (version : Version) (s : Contents) → contents doc version ≡ Ok s → IsRead doc version (children doc 0) s
 unfolding contents
-contents_are doc s e =
+contents_are doc version s e =
     let ids = bind_ok (known doc) _ s e in
     let same = same_value (known doc) ids.0 (ids_in doc) ids.1 (known_is doc) in
-    is_read doc (children doc 0) s (rw same at ids.2)
+    is_read doc version (children doc 0) s (rw same at ids.2)
 
-contents_read : (doc : Document) (s : Scenario) → AreReadOff doc (ids_in doc) (children doc 0) s.lanelets s.obstacles s.problems
-    → contents doc ≡ Ok (record { known = ids_in doc; lanelets = s.lanelets; obstacles = s.obstacles; problems = s.problems })
+abbrev head_of : Scenario → Head
+head_of s = record { version = s.version; step_micros = s.step_micros }
+
+contents_read : (doc : Document) (s : Scenario) → AreReadOff s.version doc (ids_in doc) (children doc 0) s.lanelets s.obstacles s.problems
+    → contents doc s.version ≡ Ok (record { version = s.version; known = ids_in doc; lanelets = s.lanelets; obstacles = s.obstacles; problems = s.problems })
 unfolding contents
-contents_read doc s h = rw (known_is doc) (reads_all doc (children doc 0) s.lanelets s.obstacles s.problems h)
+contents_read doc s h = rw (known_is doc) (reads_all doc s.version (children doc 0) s.lanelets s.obstacles s.problems h)
+
+abbrev scenario_of : ℤ → Contents → Scenario
+scenario_of step s = record { version = s.version; step_micros = step; lanelets = s.lanelets; obstacles = s.obstacles; problems = s.problems }
 
 -- the whole
 record IsWhole (step : ℤ) (s : Contents) (t : Scenario) : Type 0 where
   pub known : All (IsRegionKnown s.known) (regions_of s.problems)
   pub some : 1 ≤ length s.problems
-  pub is : t ≡ record { version = V2020a; step_micros = step; lanelets = s.lanelets; obstacles = s.obstacles; problems = s.problems }
+  pub is : t ≡ scenario_of step s
 
 whole_case : (step : ℤ) (s : Contents) (t : Scenario) (o : Option ℕ) → first_in (unknown_in_problem s.known) s.problems ≡ o → none_unknown step s o ≡ Ok t → IsWhole step s t
 whole_case step s t (Some id) h e = absurd cc
@@ -95,8 +121,7 @@ whole_is : (step : ℤ) (s : Contents) (t : Scenario) → whole step s ≡ Ok t 
 unfolding whole
 whole_is step s t e = whole_case step s t (first_in (unknown_in_problem s.known) s.problems) refl e
 
-whole_reads : (step : ℤ) (s : Contents) → All (IsRegionKnown s.known) (regions_of s.problems) → 1 ≤ length s.problems
-    → whole step s ≡ Ok (record { version = V2020a; step_micros = step; lanelets = s.lanelets; obstacles = s.obstacles; problems = s.problems })
+whole_reads : (step : ℤ) (s : Contents) → All (IsRegionKnown s.known) (regions_of s.problems) → 1 ≤ length s.problems → whole step s ≡ Ok (scenario_of step s)
 unfolding whole
 whole_reads step s h some =
     let none = found_of s.known s.problems ∙ none_found s.known (regions_of s.problems) h in
@@ -107,20 +132,20 @@ document_read : (doc : Document) (t : Scenario) → scenario_in doc ≡ Ok t →
 unfolding scenario_in
 document_read doc t e =
     let top = bind_ok (root doc) _ t e in
-    let held = bind_ok (contents doc) (whole top.0) t top.2 in
+    let held = bind_ok (contents doc top.0.version) (whole top.0.step_micros) t top.2 in
     let s = held.0 in
+    let items = contents_are doc top.0.version s held.1 in
     let head = root_is doc top.0 top.1 in
-    let items = contents_are doc s held.1 in
-    let all = whole_is top.0 s t held.2 in
+    let read = subst (λ (v : Version). AreReadOff v doc (ids_in doc) (children doc 0) s.lanelets s.obstacles s.problems) (sym items.same_version) items.items in
+    let all = whole_is top.0.step_micros s t held.2 in
     let ids = ids_are doc (ids_in doc) s.lanelets items.items.lanelets.read in
     let told = items.known ∙ ids in
     let P : Scenario → Type 0 = λ u. IsScenarioOf doc u in
     subst P (sym all.is) (record {
       root = head.name;
-      version = head.version;
-      told = refl;
+      version = subst (λ (v : Version). value_of (codes "commonRoadVersion") (attributes_of doc 0) ≡ Some (version_text v)) (sym items.same_version) head.version;
       step = head.tick;
-      children = rw ids at items.items;
+      children = rw ids at read;
       some = all.some;
       known = rw told at all.known;
     })
@@ -129,11 +154,11 @@ document_reads : (doc : Document) (t : Scenario) → IsScenarioOf doc t → scen
 unfolding scenario_in
 document_reads doc t h =
     let ids : ids_in doc ≡ lanelet_ids t = ids_are doc (lanelet_ids t) t.lanelets h.children.lanelets.read in
-    let s : Contents = record { known = ids_in doc; lanelets = t.lanelets; obstacles = t.obstacles; problems = t.problems } in
-    let head = root_reads doc t.step_micros (record { name = h.root; version = h.version; tick = h.step }) in
-    let held = contents_read doc t (subst (λ (known : List ℕ). AreReadOff doc known (children doc 0) t.lanelets t.obstacles t.problems) (sym ids) h.children) in
+    let s : Contents = record { version = t.version; known = ids_in doc; lanelets = t.lanelets; obstacles = t.obstacles; problems = t.problems } in
+    let head = root_reads doc (head_of t) (record { name = h.root; version = h.version; tick = h.step }) in
+    let held = contents_read doc t (subst (λ (known : List ℕ). AreReadOff t.version doc known (children doc 0) t.lanelets t.obstacles t.problems) (sym ids) h.children) in
     let all = whole_reads t.step_micros s (subst (λ (known : List ℕ). All (IsRegionKnown known) (regions_of t.problems)) (sym ids) h.known) h.some in
-    rw (head, held, all, h.told) refl
+    rw (head, held) all
 
 shown_is : (bytes : List ℕ) (r : Result (List Node) MarkupFault) (doc : Document) → shown bytes r ≡ Ok doc → (nodes : List Node) × (r ≡ Ok nodes) × (doc ≡ record { source = bytes; nodes = nodes })
 shown_is bytes (Ok nodes) doc e = (nodes, refl, sym (same_value {F = ScenarioFault} (Ok (record { source = bytes; nodes = nodes })) _ doc refl e))

@@ -1,41 +1,60 @@
--- What a child of the root is, by its name.
+-- What a child of the root is, by its name and the document's version.
 use Rattle.std.proofs.Common.{◌≡◌, ℕ, Bool, true, false, List, Ok, refl, sym, subst}
-use Rattle.std.specs.Prelude.{◌||◌, codes}
+use Rattle.std.specs.Prelude.{codes}
 use Rattle.std.specs.Str.{bytes_eq}
 use Rattle.std.proofs.lemmas.Slice.Eq.{bytes_eq-Decides}
 use Rattle.element_tree.specs.Document.{Document}
 use Rattle.element_tree.specs.Trees.{name_of}
-use Rattle.scenario_xml.specs.ScenarioOf.{is_lanelet, stands, moves, is_obstacle, is_problem}
+use Rattle.scenario_model.specs.declared.scenario.Version.{Version}
+use Rattle.scenario_model.specs.declared.scenario.Version.TheVariants.{V2020a, V2018b}
+use Rattle.scenario_xml.specs.ScenarioOf.{is_lanelet, is_obstacle, is_problem}
 use Rattle.scenario_xml.specs.Scenarios.{content_step, lanelet_step, obstacle_step, problem_step}
+use Rattle.scenario_xml.specs.Versions.{names_obstacle}
 use Rattle.scenario_xml.specs.declared.contents.Contents.{Contents}
 
-pub data Sort (doc : Document) (k : ℕ) : Type 0 where
-  a_lanelet : is_lanelet doc k ≡ true → is_obstacle doc k ≡ false → is_problem doc k ≡ false → ((s : Contents) → content_step doc k s ≡ lanelet_step doc k s) → Sort doc k
-  an_obstacle : is_lanelet doc k ≡ false → is_obstacle doc k ≡ true → is_problem doc k ≡ false → ((s : Contents) → content_step doc k s ≡ obstacle_step doc k (moves doc k) s) → Sort doc k
-  a_problem : is_lanelet doc k ≡ false → is_obstacle doc k ≡ false → is_problem doc k ≡ true → ((s : Contents) → content_step doc k s ≡ problem_step doc k s) → Sort doc k
-  another : is_lanelet doc k ≡ false → is_obstacle doc k ≡ false → is_problem doc k ≡ false → ((s : Contents) → content_step doc k s ≡ Ok s) → Sort doc k
+-- a child of the root is read so, after all that was read in this version
+abbrev pub IsReadAs : Version → (Contents → Type 0) → Type 0
+IsReadAs version P = (s : Contents) → s.version ≡ version → P s
+
+pub data Sort (version : Version) (doc : Document) (k : ℕ) : Type 0 where
+  a_lanelet : is_lanelet doc k ≡ true → is_obstacle version doc k ≡ false → is_problem doc k ≡ false
+      → IsReadAs version (λ s. content_step doc k s ≡ lanelet_step doc k s) → Sort version doc k
+  an_obstacle : is_lanelet doc k ≡ false → is_obstacle version doc k ≡ true → is_problem doc k ≡ false
+      → IsReadAs version (λ s. content_step doc k s ≡ obstacle_step doc k s) → Sort version doc k
+  a_problem : is_lanelet doc k ≡ false → is_obstacle version doc k ≡ false → is_problem doc k ≡ true
+      → IsReadAs version (λ s. content_step doc k s ≡ problem_step doc k s) → Sort version doc k
+  another : is_lanelet doc k ≡ false → is_obstacle version doc k ≡ false → is_problem doc k ≡ false
+      → IsReadAs version (λ s. content_step doc k s ≡ Ok s) → Sort version doc k
 
 -- an element with one name has no other
 other_name : (name one other : List ℕ) → bytes_eq name one ≡ true → bytes_eq one other ≡ false → bytes_eq name other ≡ false
 other_name name one other e h = subst (λ (x : List ℕ). bytes_eq x other ≡ false) (sym ((bytes_eq-Decides name one).0 e)) h
 
-neither : (a b : Bool) → a ≡ false → b ≡ false → (a || b) ≡ false
-neither true b e h = absurd cc
-neither false b e h = h
+no_obstacle : (version : Version) (name one : List ℕ) → bytes_eq name one ≡ true → names_obstacle version one ≡ false → names_obstacle version name ≡ false
+no_obstacle version name one e h = subst (λ (x : List ℕ). names_obstacle version x ≡ false) (sym ((bytes_eq-Decides name one).0 e)) h
 
-by_name : (doc : Document) (k : ℕ) (a b c d : Bool) → is_lanelet doc k ≡ a → stands doc k ≡ b → moves doc k ≡ c → is_problem doc k ≡ d → Sort doc k
-unfolding is_lanelet stands moves is_problem content_step
-by_name doc k true b c d e f g h =
-    let no_stand = other_name (name_of doc k) (codes "lanelet") (codes "staticObstacle") e refl in
-    let no_move = other_name (name_of doc k) (codes "lanelet") (codes "dynamicObstacle") e refl in
-    a_lanelet e (neither (stands doc k) (moves doc k) no_stand no_move) (other_name (name_of doc k) (codes "lanelet") (codes "planningProblem") e refl) (λ s. rw e refl)
-by_name doc k false true c d e f g h =
-    let no_move : moves doc k ≡ false = other_name (name_of doc k) (codes "staticObstacle") (codes "dynamicObstacle") f refl in
-    an_obstacle e (rw f refl) (other_name (name_of doc k) (codes "staticObstacle") (codes "planningProblem") f refl) (λ s. rw (e, f, no_move) refl)
-by_name doc k false false true d e f g h =
-    an_obstacle e (rw (f, g) refl) (other_name (name_of doc k) (codes "dynamicObstacle") (codes "planningProblem") g refl) (λ s. rw (e, f, g) refl)
-by_name doc k false false false true e f g h = a_problem e (neither (stands doc k) (moves doc k) f g) h (λ s. rw (e, f, g, h) refl)
-by_name doc k false false false false e f g h = another e (neither (stands doc k) (moves doc k) f g) h (λ s. rw (e, f, g, h) refl)
+-- a lanelet or a problem is no obstacle in any version
+lanelet_is_none : (version : Version) → names_obstacle version (codes "lanelet") ≡ false
+unfolding names_obstacle
+lanelet_is_none V2020a = refl
+lanelet_is_none V2018b = refl
 
-pub sort_of : (doc : Document) (k : ℕ) → Sort doc k
-sort_of doc k = by_name doc k (is_lanelet doc k) (stands doc k) (moves doc k) (is_problem doc k) refl refl refl refl
+problem_is_none : (version : Version) → names_obstacle version (codes "planningProblem") ≡ false
+unfolding names_obstacle
+problem_is_none V2020a = refl
+problem_is_none V2018b = refl
+
+by_name : (version : Version) (doc : Document) (k : ℕ) (a b c : Bool) → is_lanelet doc k ≡ a → is_obstacle version doc k ≡ b → is_problem doc k ≡ c → Sort version doc k
+unfolding is_lanelet is_problem content_step
+by_name version doc k true b c e f g =
+    a_lanelet e (no_obstacle version (name_of doc k) (codes "lanelet") e (lanelet_is_none version))
+    (other_name (name_of doc k) (codes "lanelet") (codes "planningProblem") e refl) (λ s same. rw e refl)
+by_name version doc k false true true e f g =
+    let other = no_obstacle version (name_of doc k) (codes "planningProblem") g (problem_is_none version) in
+    absurd cc
+by_name version doc k false true false e f g = an_obstacle e f g (λ s same. rw (e, same, f) refl)
+by_name version doc k false false true e f g = a_problem e f g (λ s same. rw (e, same, f, g) refl)
+by_name version doc k false false false e f g = another e f g (λ s same. rw (e, same, f, g) refl)
+
+pub sort_of : (version : Version) (doc : Document) (k : ℕ) → Sort version doc k
+sort_of version doc k = by_name version doc k (is_lanelet doc k) (is_obstacle version doc k) (is_problem doc k) refl refl refl

@@ -1,4 +1,5 @@
 pub mod Faults
+pub mod Versions
 pub mod Numbers
 pub mod Elements
 pub mod Children

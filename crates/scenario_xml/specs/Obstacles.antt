@@ -1,6 +1,8 @@
--- Obstacles (CommonRoad XML 2020a).
-use Rattle.std.specs.Prelude.{ℕ, Bool, List, [], ◌∷◌, codes, Option, Some, None, Result, Ok, Err, if◌then◌else◌}
+-- Obstacles (CommonRoad XML 2020a and 2018b).
+use Rattle.std.specs.Prelude.{ℕ, Bool, true, false, List, [], ◌∷◌, codes, Option, Some, None, Result, Ok, Err, if◌then◌else◌}
+use Rattle.std.specs.Str.{bytes_eq}
 use Rattle.element_tree.specs.Document.{Document}
+use Rattle.element_tree.specs.Trees.{name_of, text_of}
 use Rattle.reading.specs.Reading.{◌>>=◌}
 use Rattle.scenario_model.specs.declared.obstacle.Obstacle.{Obstacle}
 use Rattle.scenario_model.specs.declared.obstacle.Pose.{Pose}
@@ -30,6 +32,28 @@ obstacle_unless doc k id moving None =
     course doc k moving >>= λ way.
     Ok (record { id = id; moving = moving; shapes = all; states = way })
 
--- `staticObstacle`, or where it moves `dynamicObstacle`, with an id
+-- an obstacle with an id, which moves or stands
 unfoldable pub obstacle : Document → ℕ → ℕ → Bool → Result Obstacle ScenarioFault
 obstacle doc k id moving = obstacle_unless doc k id moving (child doc k (codes "occupancySet"))
+
+abbrev pub moves_as : ℕ → Option (List ℕ) → Result Bool ScenarioFault
+moves_as at None = Err (Unsupported at)
+moves_as at (Some text) =
+    if bytes_eq text (codes "static") then Ok false
+    else if bytes_eq text (codes "dynamic") then Ok true
+    else Err (Unsupported at)
+
+-- whether an `obstacle` moves, by its `role`
+unfoldable pub role : Document → ℕ → Result Bool ScenarioFault
+role doc k = wanted_child doc k wanted.Role >>= λ r. moves_as (place doc r) (text_of doc r)
+
+-- whether an obstacle moves: `dynamicObstacle` does, `staticObstacle` does not, and `obstacle` by its role
+unfoldable pub moving : Document → ℕ → Result Bool ScenarioFault
+moving doc k =
+    if bytes_eq (name_of doc k) (codes "staticObstacle") then Ok false
+    else if bytes_eq (name_of doc k) (codes "dynamicObstacle") then Ok true
+    else role doc k
+
+-- an obstacle of any of these names, with an id
+unfoldable pub any_obstacle : Document → ℕ → ℕ → Result Obstacle ScenarioFault
+any_obstacle doc k id = moving doc k >>= obstacle doc k id

@@ -1,5 +1,5 @@
--- The first fault of a document that is no scenario, in document order (CommonRoad XML 2020a).
-use Rattle.std.specs.Prelude.{◌≡◌, ◌≢◌, ℕ, ◌<◌, ◌≤◌, true, List, [], ◌∷◌, ◌++◌, length, filter, All, Any, ℤ, Result, Ok, Err, ⊤}
+-- The first fault of a document that is no scenario, in document order (CommonRoad XML 2020a and 2018b).
+use Rattle.std.specs.Prelude.{◌≡◌, ◌≢◌, ℕ, ◌<◌, ◌≤◌, true, List, [], ◌∷◌, ◌++◌, length, filter, All, Any, Result, Ok, Err, ⊤}
 use Rattle.std.specs.List.{filter_map}
 use Rattle.std.specs.Result.{result_ok}
 use Rattle.element_tree.specs.declared.fault.MarkupFault.{MarkupFault}
@@ -14,12 +14,13 @@ use Rattle.scenario_model.specs.declared.obstacle.Obstacle.{Obstacle}
 use Rattle.scenario_model.specs.declared.problem.Problem.{Problem}
 use Rattle.scenario_model.specs.declared.problem.Region.{Region}
 use Rattle.scenario_model.specs.declared.problem.Region.TheVariants.{OnLanelet}
+use Rattle.scenario_model.specs.declared.scenario.Version.{Version}
 use Rattle.scenario_xml.specs.Elements.{id_attribute}
 use Rattle.scenario_xml.specs.Faults.{from_markup}
 use Rattle.scenario_xml.specs.Goals.{problem}
 use Rattle.scenario_xml.specs.Lanelets.{lanelet}
-use Rattle.scenario_xml.specs.Obstacles.{obstacle}
-use Rattle.scenario_xml.specs.ScenarioOf.{is_lanelet, moves, is_obstacle, is_problem, AreReadOff, regions_of, IsRegionKnown}
+use Rattle.scenario_xml.specs.Obstacles.{any_obstacle}
+use Rattle.scenario_xml.specs.ScenarioOf.{is_lanelet, is_obstacle, is_problem, AreReadOff, regions_of, IsRegionKnown}
 use Rattle.scenario_xml.specs.Scenarios.{root}
 use Rattle.scenario_xml.specs.declared.contents.Contents.{Contents}
 use Rattle.scenario_xml.specs.declared.fault.Kind.{Kind}
@@ -27,15 +28,17 @@ use Rattle.scenario_xml.specs.declared.fault.Kind.TheVariants as kind
 use Rattle.scenario_xml.specs.declared.fault.ScenarioFault.{ScenarioFault}
 use Rattle.scenario_xml.specs.declared.fault.ScenarioFault.TheVariants.{Markup, TooMany, DuplicateId, UnknownRef, NoProblem}
 use Rattle.scenario_xml.specs.declared.fault.Wanted.TheVariants as wanted
+use Rattle.scenario_xml.specs.declared.root.Head.{Head}
 
 -- the ids of all lanelets that have one
 abbrev pub ids_in : Document → List ℕ
 ids_in doc = filter_map (λ k. result_ok (id_attribute doc k wanted.Id)) (filter (is_lanelet doc) (children doc 0))
 
--- what was read, of these children of the root
-pub record IsRead (doc : Document) (nodes : List ℕ) (s : Contents) : Type 0 where
+-- what was read, of these children of the root, in a version
+pub record IsRead (doc : Document) (version : Version) (nodes : List ℕ) (s : Contents) : Type 0 where
+  pub same_version : s.version ≡ version
   pub known : s.known ≡ ids_in doc
-  pub items : AreReadOff doc (ids_in doc) nodes s.lanelets s.obstacles s.problems
+  pub items : AreReadOff version doc (ids_in doc) nodes s.lanelets s.obstacles s.problems
 
 -- Why one more item of a kind is refused, after these: by its id, if it has one, and by what is read of it under an id.
 pub data IsItemRefused {X : Type 0} (what : Kind) (limit : ℕ) (id_of : X → ℕ) (items : List X) (found : Result ℕ ScenarioFault) (content : ℕ → Result X ScenarioFault) : ScenarioFault → Type 0 where
@@ -52,19 +55,19 @@ pub data IsItemRefused {X : Type 0} (what : Kind) (limit : ℕ) (id_of : X → �
 pub data IsRefused (doc : Document) (k : ℕ) (s : Contents) (f : ScenarioFault) : Type 0 where
   as_lanelet : is_lanelet doc k ≡ true
       → IsItemRefused kind.Lanelet 4000 (λ (l : Lanelet). l.id) s.lanelets (id_attribute doc k wanted.Id) (λ id. lanelet doc k id s.known) f → IsRefused doc k s f
-  as_obstacle : is_obstacle doc k ≡ true
-      → IsItemRefused kind.Obstacle 500 (λ (o : Obstacle). o.id) s.obstacles (id_attribute doc k wanted.Id) (λ id. obstacle doc k id (moves doc k)) f → IsRefused doc k s f
+  as_obstacle : is_obstacle s.version doc k ≡ true
+      → IsItemRefused kind.Obstacle 500 (λ (o : Obstacle). o.id) s.obstacles (id_attribute doc k wanted.Id) (λ id. any_obstacle doc k id) f → IsRefused doc k s f
   as_problem : is_problem doc k ≡ true
       → IsItemRefused kind.Problem 64 (λ (p : Problem). p.id) s.problems (id_attribute doc k wanted.Id) (λ id. problem doc k id) f → IsRefused doc k s f
 
 -- A child of the root has a fault, after all children before it were read.
-pub record IsChildFault (doc : Document) (f : ScenarioFault) : Type 0 where
+pub record IsChildFault (doc : Document) (version : Version) (f : ScenarioFault) : Type 0 where
   pub before : List ℕ
   pub node : ℕ
   pub after : List ℕ
   pub state : Contents
   pub cut : children doc 0 ≡ before ++ node ∷ after
-  pub fine : IsRead doc before state
+  pub fine : IsRead doc version before state
   pub refused : IsRefused doc node state f
 
 -- A region refers to a lanelet that the document lacks, and all regions before it to none that it lacks.
@@ -80,12 +83,12 @@ pub data IsFirstFaultOf (doc : Document) : ScenarioFault → Type 0 where
   -- the root has a fault
   in_root : (f : ScenarioFault) → root doc ≡ Err f → IsFirstFaultOf doc f
   -- the root is fine, and a child of it has a fault
-  in_child : (step : ℤ) (f : ScenarioFault) → root doc ≡ Ok step → IsChildFault doc f → IsFirstFaultOf doc f
+  in_child : (head : Head) (f : ScenarioFault) → root doc ≡ Ok head → IsChildFault doc head.version f → IsFirstFaultOf doc f
   -- all children are fine, and a region refers to a lanelet that the document lacks
-  in_region : (step : ℤ) (s : Contents) (id : ℕ) → root doc ≡ Ok step → IsRead doc (children doc 0) s → IsFirstUnknown (ids_in doc) (regions_of s.problems) id
+  in_region : (head : Head) (s : Contents) (id : ℕ) → root doc ≡ Ok head → IsRead doc head.version (children doc 0) s → IsFirstUnknown (ids_in doc) (regions_of s.problems) id
       → IsFirstFaultOf doc (UnknownRef id)
   -- all children and regions are fine, and there is no problem
-  in_whole : (step : ℤ) (s : Contents) → root doc ≡ Ok step → IsRead doc (children doc 0) s → All (IsRegionKnown (ids_in doc)) (regions_of s.problems) → s.problems ≡ []
+  in_whole : (head : Head) (s : Contents) → root doc ≡ Ok head → IsRead doc head.version (children doc 0) s → All (IsRegionKnown (ids_in doc)) (regions_of s.problems) → s.problems ≡ []
       → IsFirstFaultOf doc NoProblem
 
 -- The first fault of some bytes.

@@ -1,5 +1,5 @@
--- When a scenario is that of a document, spoken of all children of the root at once (CommonRoad XML 2020a). The limits are this project's own.
-use Rattle.std.specs.Prelude.{◌≡◌, ℕ, ◌≤◌, Bool, ◌||◌, List, length, filter, All, codes, Some, Ok, ⊤}
+-- When a scenario is that of a document, spoken of all children of the root at once (CommonRoad XML 2020a and 2018b). The limits are this project's own.
+use Rattle.std.specs.Prelude.{◌≡◌, ℕ, ◌≤◌, Bool, List, length, filter, All, codes, Some, Ok, ⊤}
 use Rattle.std.specs.List.{AllZip, flat_map}
 use Rattle.std.specs.Str.{bytes_eq}
 use Rattle.element_tree.specs.declared.node.Node.{Node}
@@ -7,7 +7,6 @@ use Rattle.element_tree.specs.Document.{Document}
 use Rattle.element_tree.specs.Documents.{markup}
 use Rattle.element_tree.specs.Tags.{value_of}
 use Rattle.element_tree.specs.Trees.{name_of, attributes_of, children}
-use Rattle.reading.specs.Reading.{◌>>=◌}
 use Rattle.scenario_model.specs.Scenario.{HaveDifferentIds, lanelet_ids, IsKnown}
 use Rattle.scenario_model.specs.declared.lanelet.Lanelet.{Lanelet}
 use Rattle.scenario_model.specs.declared.obstacle.Obstacle.{Obstacle}
@@ -16,27 +15,21 @@ use Rattle.scenario_model.specs.declared.problem.Problem.{Problem}
 use Rattle.scenario_model.specs.declared.problem.Region.{Region}
 use Rattle.scenario_model.specs.declared.problem.Region.TheVariants.{Inside, OnLanelet}
 use Rattle.scenario_model.specs.declared.scenario.Scenario.{Scenario}
-use Rattle.scenario_model.specs.declared.scenario.Version.TheVariants.{V2020a}
-use Rattle.scenario_xml.specs.Elements.{place, wanted_attribute, id_attribute}
+use Rattle.scenario_model.specs.declared.scenario.Version.{Version}
+use Rattle.scenario_xml.specs.Elements.{id_attribute}
 use Rattle.scenario_xml.specs.Goals.{problem}
 use Rattle.scenario_xml.specs.Lanelets.{lanelet}
-use Rattle.scenario_xml.specs.Numbers.{number_in}
-use Rattle.scenario_xml.specs.Obstacles.{obstacle}
+use Rattle.scenario_xml.specs.Obstacles.{moving, obstacle}
+use Rattle.scenario_xml.specs.Scenarios.{tick_length}
+use Rattle.scenario_xml.specs.Versions.{version_text, names_obstacle}
 use Rattle.scenario_xml.specs.declared.fault.Wanted.TheVariants as wanted
-use Rattle.scenario_xml.specs.declared.quantity.Quantity.TheVariants.{Step}
 
 -- what element k is, by its name
 unfoldable pub is_lanelet : Document → ℕ → Bool
 is_lanelet doc k = bytes_eq (name_of doc k) (codes "lanelet")
 
-unfoldable pub stands : Document → ℕ → Bool
-stands doc k = bytes_eq (name_of doc k) (codes "staticObstacle")
-
-unfoldable pub moves : Document → ℕ → Bool
-moves doc k = bytes_eq (name_of doc k) (codes "dynamicObstacle")
-
-abbrev pub is_obstacle : Document → ℕ → Bool
-is_obstacle doc k = stands doc k || moves doc k
+abbrev pub is_obstacle : Version → Document → ℕ → Bool
+is_obstacle version doc k = names_obstacle version (name_of doc k)
 
 unfoldable pub is_problem : Document → ℕ → Bool
 is_problem doc k = bytes_eq (name_of doc k) (codes "planningProblem")
@@ -49,7 +42,7 @@ pub record IsLaneletAt (doc : Document) (ids : List ℕ) (k : ℕ) (l : Lanelet)
 -- element k is this obstacle
 pub record IsObstacleAt (doc : Document) (k : ℕ) (o : Obstacle) : Type 0 where
   pub id : id_attribute doc k wanted.Id ≡ Ok o.id
-  pub moving : o.moving ≡ moves doc k
+  pub moving : moving doc k ≡ Ok o.moving
   pub content : obstacle doc k o.id o.moving ≡ Ok o
 
 -- element k is this problem
@@ -63,10 +56,10 @@ pub record AreItems {X : Type 0} (IsItemAt : ℕ → X → Type 0) (id_of : X �
   pub few : length items ≤ limit
   pub different : HaveDifferentIds id_of items
 
--- These lanelets, obstacles and problems are those among some children of the root, where these are the ids of all lanelets.
-pub record AreReadOff (doc : Document) (ids nodes : List ℕ) (some_lanelets : List Lanelet) (some_obstacles : List Obstacle) (some_problems : List Problem) : Type 0 where
+-- These lanelets, obstacles and problems are those among some children of the root, in a version, where these are the ids of all lanelets.
+pub record AreReadOff (version : Version) (doc : Document) (ids nodes : List ℕ) (some_lanelets : List Lanelet) (some_obstacles : List Obstacle) (some_problems : List Problem) : Type 0 where
   pub lanelets : AreItems (IsLaneletAt doc ids) (λ (l : Lanelet). l.id) 4000 (filter (is_lanelet doc) nodes) some_lanelets
-  pub obstacles : AreItems (IsObstacleAt doc) (λ (o : Obstacle). o.id) 500 (filter (is_obstacle doc) nodes) some_obstacles
+  pub obstacles : AreItems (IsObstacleAt doc) (λ (o : Obstacle). o.id) 500 (filter (is_obstacle version doc) nodes) some_obstacles
   pub problems : AreItems (IsProblemAt doc) (λ (p : Problem). p.id) 64 (filter (is_problem doc) nodes) some_problems
 
 -- all goals of some problems, and all their regions, in their order
@@ -81,14 +74,13 @@ abbrev pub IsRegionKnown : List ℕ → Region → Type 0
 IsRegionKnown ids (Inside shape) = ⊤
 IsRegionKnown ids (OnLanelet id) = IsKnown ids id
 
--- The scenario of a document. Its root is `commonRoad` of the version, and says how long a tick is. Each child of the root with one of the four names is
+-- The scenario of a document. Its root is `commonRoad` of the version, and says how long a tick is. Each child of the root with a name that the version reads is
 -- one lanelet, obstacle or problem of it, in their order, and it has no others. There is a problem, and each region that is a lanelet is one of the document's.
 pub record IsScenarioOf (doc : Document) (s : Scenario) : Type 0 where
   pub root : name_of doc 0 ≡ codes "commonRoad"
-  pub version : value_of (codes "commonRoadVersion") (attributes_of doc 0) ≡ Some (codes "2020a")
-  pub told : s.version ≡ V2020a
-  pub step : (wanted_attribute doc 0 wanted.TimeStepSize >>= number_in (place doc 0) Step) ≡ Ok s.step_micros
-  pub children : AreReadOff doc (lanelet_ids s) (children doc 0) s.lanelets s.obstacles s.problems
+  pub version : value_of (codes "commonRoadVersion") (attributes_of doc 0) ≡ Some (version_text s.version)
+  pub step : tick_length doc ≡ Ok s.step_micros
+  pub children : AreReadOff s.version doc (lanelet_ids s) (children doc 0) s.lanelets s.obstacles s.problems
   pub some : 1 ≤ length s.problems
   pub known : All (IsRegionKnown (lanelet_ids s)) (regions_of s.problems)
 

@@ -1,4 +1,4 @@
--- The scenario of a document, or its first fault (CommonRoad XML 2020a). The limits are this project's own.
+-- The scenario of a document, or its first fault (CommonRoad XML 2020a and 2018b). The limits are this project's own.
 use Rattle.std.specs.Prelude.{ℕ, ◌++◌, Bool, true, false, ◌==◌, List, [], ◌∷◌, length, ℤ, nat_le, codes, Option, Some, None, Result, Ok, Err, if◌then◌else◌}
 use Rattle.std.specs.List.{list_any}
 use Rattle.std.specs.Str.{bytes_eq}
@@ -15,21 +15,23 @@ use Rattle.scenario_model.specs.declared.problem.Problem.{Problem}
 use Rattle.scenario_model.specs.declared.problem.Region.{Region}
 use Rattle.scenario_model.specs.declared.problem.Region.TheVariants.{Inside, OnLanelet}
 use Rattle.scenario_model.specs.declared.scenario.Scenario.{Scenario}
-use Rattle.scenario_model.specs.declared.scenario.Version.TheVariants.{V2020a}
+use Rattle.scenario_model.specs.declared.scenario.Version.{Version}
 use Rattle.scenario_xml.specs.Children.{read_nodes}
 use Rattle.scenario_xml.specs.Elements.{place, wanted_attribute, id_attribute}
 use Rattle.scenario_xml.specs.Faults.{from_markup}
 use Rattle.scenario_xml.specs.Goals.{problem}
 use Rattle.scenario_xml.specs.Lanelets.{is_known, lanelet}
 use Rattle.scenario_xml.specs.Numbers.{number_in}
-use Rattle.scenario_xml.specs.Obstacles.{obstacle}
+use Rattle.scenario_xml.specs.Obstacles.{any_obstacle}
+use Rattle.scenario_xml.specs.Versions.{version_in, names_obstacle}
 use Rattle.scenario_xml.specs.declared.contents.Contents.{Contents}
 use Rattle.scenario_xml.specs.declared.fault.Kind.{Kind}
 use Rattle.scenario_xml.specs.declared.fault.Kind.TheVariants as kind
 use Rattle.scenario_xml.specs.declared.fault.ScenarioFault.{ScenarioFault}
-use Rattle.scenario_xml.specs.declared.fault.ScenarioFault.TheVariants.{WrongRoot, WrongVersion, DuplicateId, UnknownRef, NoProblem, TooMany}
+use Rattle.scenario_xml.specs.declared.fault.ScenarioFault.TheVariants.{WrongRoot, DuplicateId, UnknownRef, NoProblem, TooMany}
 use Rattle.scenario_xml.specs.declared.fault.Wanted.TheVariants as wanted
 use Rattle.scenario_xml.specs.declared.quantity.Quantity.TheVariants.{Step}
+use Rattle.scenario_xml.specs.declared.root.Head.{Head}
 
 -- one of these has the id
 unfoldable pub has_id : {X : Type 0} → (X → ℕ) → ℕ → List X → Bool
@@ -47,10 +49,10 @@ lanelet_step doc k s =
     lanelet doc k id s.known >>= λ l.
     Ok (record s { lanelets = s.lanelets ++ l ∷ [] })
 
-unfoldable pub obstacle_step : Document → ℕ → Bool → Contents → Result Contents ScenarioFault
-obstacle_step doc k moving s =
+unfoldable pub obstacle_step : Document → ℕ → Contents → Result Contents ScenarioFault
+obstacle_step doc k s =
     new_id kind.Obstacle 500 (λ (o : Obstacle). o.id) doc k s.obstacles >>= λ id.
-    obstacle doc k id moving >>= λ o.
+    any_obstacle doc k id >>= λ o.
     Ok (record s { obstacles = s.obstacles ++ o ∷ [] })
 
 unfoldable pub problem_step : Document → ℕ → Contents → Result Contents ScenarioFault
@@ -63,8 +65,7 @@ problem_step doc k s =
 unfoldable pub content_step : Document → ℕ → Contents → Result Contents ScenarioFault
 content_step doc k s =
     if bytes_eq (name_of doc k) (codes "lanelet") then lanelet_step doc k s
-    else if bytes_eq (name_of doc k) (codes "staticObstacle") then obstacle_step doc k false s
-    else if bytes_eq (name_of doc k) (codes "dynamicObstacle") then obstacle_step doc k true s
+    else if names_obstacle s.version (name_of doc k) then obstacle_step doc k s
     else if bytes_eq (name_of doc k) (codes "planningProblem") then problem_step doc k s
     else Ok s
 
@@ -80,20 +81,25 @@ known_step doc k ids =
 unfoldable pub known : Document → Result (List ℕ) ScenarioFault
 known doc = read_nodes (known_step doc) (children doc 0) []
 
-unfoldable pub contents : Document → Result Contents ScenarioFault
-contents doc =
+-- what the root holds, in a version
+unfoldable pub contents : Document → Version → Result Contents ScenarioFault
+contents doc version =
     known doc >>= λ ids.
-    read_nodes (content_step doc) (children doc 0) (record { known = ids; lanelets = []; obstacles = []; problems = [] })
+    read_nodes (content_step doc) (children doc 0)
+    (record { version = version; known = ids; lanelets = []; obstacles = []; problems = [] })
 
--- the root is `commonRoad` of the version, and says how long a tick is
-abbrev pub in_version : Document → List ℕ → Result ℤ ScenarioFault
-in_version doc version =
-    if bytes_eq version (codes "2020a") then (wanted_attribute doc 0 wanted.TimeStepSize >>= number_in (place doc 0) Step)
-    else Err WrongVersion
+-- how long a tick is, by the root
+unfoldable pub tick_length : Document → Result ℤ ScenarioFault
+tick_length doc = wanted_attribute doc 0 wanted.TimeStepSize >>= number_in (place doc 0) Step
 
-unfoldable pub root : Document → Result ℤ ScenarioFault
+abbrev pub head_in : Document → Version → Result Head ScenarioFault
+head_in doc version = tick_length doc >>= λ step. Ok (record { version = version; step_micros = step })
+
+-- the root is `commonRoad` of one of the versions, and says how long a tick is
+unfoldable pub root : Document → Result Head ScenarioFault
 root doc =
-    if bytes_eq (name_of doc 0) (codes "commonRoad") then (wanted_attribute doc 0 wanted.CommonRoadVersion >>= in_version doc)
+    if bytes_eq (name_of doc 0) (codes "commonRoad") then
+    (wanted_attribute doc 0 wanted.CommonRoadVersion >>= λ text. version_in text >>= head_in doc)
     else Err WrongRoot
 
 abbrev pub or_else : {Y : Type 0} → Option Y → Option Y → Option Y
@@ -121,14 +127,20 @@ abbrev pub none_unknown : ℤ → Contents → Option ℕ → Result Scenario Sc
 none_unknown step s (Some id) = Err (UnknownRef id)
 none_unknown step s None =
     if length s.problems == 0 then Err NoProblem
-    else Ok (record { version = V2020a; step_micros = step; lanelets = s.lanelets; obstacles = s.obstacles; problems = s.problems })
+    else Ok (record {
+      version = s.version;
+      step_micros = step;
+      lanelets = s.lanelets;
+      obstacles = s.obstacles;
+      problems = s.problems;
+    })
 
 unfoldable pub whole : ℤ → Contents → Result Scenario ScenarioFault
 whole step s = none_unknown step s (first_in (unknown_in_problem s.known) s.problems)
 
 -- the scenario of a tree
 unfoldable pub scenario_in : Document → Result Scenario ScenarioFault
-scenario_in doc = root doc >>= λ step. contents doc >>= whole step
+scenario_in doc = root doc >>= λ head. contents doc head.version >>= whole head.step_micros
 
 abbrev pub shown : List ℕ → Result (List Node) MarkupFault → Result Document ScenarioFault
 shown bytes (Ok nodes) = Ok (record { source = bytes; nodes = nodes })

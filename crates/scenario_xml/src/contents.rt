@@ -11,10 +11,11 @@ use crate::goal::problem;
 use crate::identified::new_id;
 use crate::known::Known;
 use crate::lanelet::lanelet;
-use crate::obstacle::obstacle;
+use crate::obstacle::any_obstacle;
+use crate::versions::names_obstacle;
 use element_tree::Tree;
 use preorder::List;
-use scenario_model::{Lanelet, Obstacle, Problem};
+use scenario_model::{Lanelet, Obstacle, Problem, Version};
 use std::alloc::Global;
 
 /// The most of each kind that a scenario may have.
@@ -61,6 +62,7 @@ fn known(alloc: Global, tree: &Tree<'_>) -> Result<Known, ScenarioFault>
 /// What the root holds, as far as it is read.
 #[derive(Drop)]
 pub struct Contents {
+    pub version: Version,
     pub known: Known,
     pub lanelets: List<Lanelet>,
     pub obstacles: List<Obstacle>,
@@ -98,11 +100,10 @@ impl Contents {
         alloc: Global,
         tree: &Tree<'_>,
         node: u32,
-        moving: bool,
     ) -> Result<(), ScenarioFault>
         requires inside { node < length tree.now.nodes }
         requires sound { AreContents self.old }
-        ensures exact { Gives is_memory (λ _. self.new) result (obstacle_step tree.now node moving self.old) }
+        ensures exact { Gives is_memory (λ _. self.new) result (obstacle_step tree.now node self.old) }
         ensures sound { OnOk result (AreContents self.new) }
     {
         let id = new_id(
@@ -112,7 +113,7 @@ impl Contents {
             Kind::Obstacle,
             MAX_OBSTACLES,
         )?;
-        let obstacle = obstacle(alloc, tree, node, id, moving)?;
+        let obstacle = any_obstacle(alloc, tree, node, id)?;
         self.obstacles.push(obstacle)?;
         Ok(())
     }
@@ -157,10 +158,8 @@ impl ChildReader for Contents {
         let name = tree.name(child);
         if name == b"lanelet".as_slice() {
             self.add_lanelet(alloc, tree, child)
-        } else if name == b"staticObstacle".as_slice() {
-            self.add_obstacle(alloc, tree, child, false)
-        } else if name == b"dynamicObstacle".as_slice() {
-            self.add_obstacle(alloc, tree, child, true)
+        } else if names_obstacle(self.version, name) {
+            self.add_obstacle(alloc, tree, child)
         } else if name == b"planningProblem".as_slice() {
             self.add_problem(alloc, tree, child)
         } else {
@@ -169,15 +168,20 @@ impl ChildReader for Contents {
     }
 }
 
-/// What the root of a document holds.
+/// What the root of a document of the version holds.
 #[tactic(auto, unfolding(crate::specs::Scenarios::contents))]
-pub fn contents_of(alloc: Global, tree: &Tree<'_>) -> Result<Contents, ScenarioFault>
+pub fn contents_of(
+    alloc: Global,
+    tree: &Tree<'_>,
+    version: Version,
+) -> Result<Contents, ScenarioFault>
     requires { 0 < length tree.now.nodes }
-    ensures exact { Gives is_memory (λ c. c) result (contents tree.now) }
+    ensures exact { Gives is_memory (λ c. c) result (contents tree.now version) }
     ensures sound { IfOk result AreContents }
 {
     let known = known(alloc, tree)?;
     let mut contents = Contents {
+        version,
         known,
         lanelets: List::new(alloc),
         obstacles: List::new(alloc),

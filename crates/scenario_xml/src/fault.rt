@@ -28,6 +28,8 @@ pub enum Wanted {
     GoalState,
     IntervalStart,
     IntervalEnd,
+    /// Whether an `obstacle` of version 2018b moves.
+    Role,
 }
 
 /// What there are too many of.
@@ -47,7 +49,7 @@ pub enum ScenarioFault {
     Markup(MarkupFault),
     /// The root is another element than `commonRoad`.
     WrongRoot,
-    /// The version is another than `2020a`.
+    /// The version is another than `2020a` and `2018b`.
     WrongVersion,
     /// The element at this place lacks it.
     Missing(Wanted, usize),
@@ -61,7 +63,8 @@ pub enum ScenarioFault {
     BadShape(u64),
     /// A bound of the lanelet with this id has not 2 to 2,048 points.
     BadBound(u64),
-    /// An element that would hide an obstacle if it were skipped.
+    /// An element that would hide an obstacle if it were skipped, or a `role` that is neither
+    /// `static` nor `dynamic`.
     Unsupported(usize),
     /// There is no planning problem.
     NoProblem,
@@ -116,6 +119,7 @@ impl Wanted {
             Wanted::GoalState => b"goalState",
             Wanted::IntervalStart => b"intervalStart",
             Wanted::IntervalEnd => b"intervalEnd",
+            Wanted::Role => b"role",
         }
     }
 }

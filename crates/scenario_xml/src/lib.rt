@@ -1,4 +1,4 @@
-//! The driving scenario of a CommonRoad XML document (version 2020a), as far as it is read here.
+//! The driving scenario of a CommonRoad XML document (versions 2020a and 2018b), as far as it is read here.
 //!
 //! The layer above uses that `read_scenario` gives the scenario of `specs/Scenarios.antt`, or the first fault in the order that stands there, and that a scenario is well formed.
 //! Each element has a definition of its own in `specs/`, and one function that gives it. What the whole comes to stands in `specs/ScenarioOf.antt` and `ScenarioFaults.antt`.
@@ -15,6 +15,7 @@ mod lanelet;
 mod obstacle;
 mod quantity;
 mod region;
+mod root;
 mod scenario;
 mod shape;
 mod span;
@@ -22,6 +23,7 @@ mod state;
 #[cfg(test)]
 mod tests;
 mod unknown;
+mod versions;
 
 pub use fault::{Kind, ScenarioFault, Wanted};
 pub use scenario::read_scenario;

@@ -2,7 +2,7 @@ ghost use Rattle.std.specs.Prelude.{◌≡◌, ◌<◌, ◌≤◌, ◌^◌, leng
 ghost use Rattle.scenario_model.specs.Scenario.{corner_count, IsShape, IsPose, IsStateCount, IsObstacle};
 ghost use Rattle.reading.specs.Reading.{Gives};
 ghost use Rattle.scenario_xml.specs.Faults.{is_memory};
-ghost use Rattle.scenario_xml.specs.Obstacles.{form, course, obstacle};
+ghost use Rattle.scenario_xml.specs.Obstacles.{form, course, obstacle, role, moving, any_obstacle};
 
 use crate::element::{child, wanted_child};
 use crate::fault::{ScenarioFault, Wanted};
@@ -51,7 +51,7 @@ fn course(
 
 /// An obstacle with the id, which moves or stands.
 #[tactic(auto, unfolding(crate::specs::Obstacles::obstacle))]
-pub fn obstacle(
+fn obstacle(
     alloc: Global,
     tree: &Tree<'_>,
     node: u32,
@@ -75,4 +75,52 @@ pub fn obstacle(
         shapes,
         states,
     })
+}
+
+/// Whether an `obstacle` moves, by its `role`.
+#[tactic(auto, unfolding(crate::specs::Obstacles::role))]
+fn role(tree: &Tree<'_>, node: u32) -> Result<bool, ScenarioFault>
+    requires { node < length tree.now.nodes }
+    ensures { Gives is_memory (λ moves. moves) result (role tree.now node) }
+{
+    let role = wanted_child(tree, node, Wanted::Role)?;
+    match tree.text(role) {
+        Some(text) if text == b"static".as_slice() => Ok(false),
+        Some(text) if text == b"dynamic".as_slice() => Ok(true),
+        _ => Err(ScenarioFault::Unsupported(tree.place(role))),
+    }
+}
+
+/// Whether an obstacle moves, by its name, or else by its role.
+#[tactic(auto, unfolding(crate::specs::Obstacles::moving))]
+fn moving(tree: &Tree<'_>, node: u32) -> Result<bool, ScenarioFault>
+    requires { node < length tree.now.nodes }
+    ensures { Gives is_memory (λ moves. moves) result (moving tree.now node) }
+{
+    let name = tree.name(node);
+    if name == b"staticObstacle".as_slice() {
+        Ok(false)
+    } else if name == b"dynamicObstacle".as_slice() {
+        Ok(true)
+    } else {
+        role(tree, node)
+    }
+}
+
+/// An obstacle with the id, of any of its names.
+#[tactic(auto, unfolding(crate::specs::Obstacles::any_obstacle))]
+pub fn any_obstacle(
+    alloc: Global,
+    tree: &Tree<'_>,
+    node: u32,
+    id: u64,
+) -> Result<Obstacle, ScenarioFault>
+    requires inside { node < length tree.now.nodes }
+    requires id { id < 10 ^ 18 }
+    ensures exact { Gives is_memory (λ o. o) result (any_obstacle tree.now node id) }
+    ensures id { IfOk result (λ o. o.id ≡ id) }
+    ensures sound { IfOk result IsObstacle }
+{
+    let moving = moving(tree, node)?;
+    obstacle(alloc, tree, node, id, moving)
 }

@@ -1,40 +1,20 @@
-ghost use Rattle.std.specs.Prelude.{◌≡◌, ◌<◌, ◌^◌, ◌≤ℤ◌, pos, length, IfOk, IfErr};
+ghost use Rattle.std.specs.Prelude.{◌^◌, ◌≤ℤ◌, pos, IfOk, IfErr};
 ghost use Rattle.std.specs.Bool.{OnFalse};
 ghost use Rattle.reading.specs.Reading.{Gives};
 ghost use Rattle.scenario_model.specs.Scenario.{IsScenario};
 ghost use Rattle.scenario_xml.specs.Faults.{is_memory};
 ghost use Rattle.scenario_xml.specs.ScenarioFaults.{IsFirstFaultIn, IsOnlyFaultIn, IsMarkupTold};
 ghost use Rattle.scenario_xml.specs.ScenarioOf.{IsScenarioIn, IsOnlyScenarioIn, IsNoScenario};
-ghost use Rattle.scenario_xml.specs.Scenarios.{root, whole, scenario_in, document, scenario};
+ghost use Rattle.scenario_xml.specs.Scenarios.{whole, scenario_in, document, scenario};
 ghost use Rattle.scenario_xml.specs.Sound.{AreWhole};
 
 use crate::contents::{Contents, contents_of};
-use crate::element::wanted_attribute;
-use crate::fault::{ScenarioFault, Wanted};
-use crate::quantity::{Quantity, number_in};
+use crate::fault::ScenarioFault;
+use crate::root::root;
 use crate::unknown::first_unknown;
 use element_tree::{Tree, read_tree};
-use scenario_model::{Scenario, Version};
+use scenario_model::Scenario;
 use std::alloc::Global;
-
-/// How long a tick is, by the root.
-#[tactic(auto, unfolding(crate::specs::Scenarios::root), using(crate::proofs::Roots::no_root))]
-fn root(tree: &Tree<'_>) -> Result<i64, ScenarioFault>
-    ensures exact { Gives is_memory (λ n. n) result (root tree.now) }
-    ensures some { IfOk result (λ _. 0 < length tree.now.nodes) }
-    ensures low { IfOk result (λ step. pos 1 ≤ℤ step) }
-    ensures high { IfOk result (λ step. step ≤ℤ pos (10 ^ 9)) }
-{
-    if tree.count() == 0 || tree.name(0) != b"commonRoad".as_slice() {
-        return Err(ScenarioFault::WrongRoot);
-    }
-    let version = wanted_attribute(tree, 0, Wanted::CommonRoadVersion)?;
-    if version != b"2020a".as_slice() {
-        return Err(ScenarioFault::WrongVersion);
-    }
-    let step = wanted_attribute(tree, 0, Wanted::TimeStepSize)?;
-    number_in(tree.place(0), step, Quantity::Step)
-}
 
 /// The scenario of what was read, if every goal's region is known and there is a problem.
 #[tactic(auto, unfolding(crate::specs::Scenarios::whole))]
@@ -52,7 +32,7 @@ fn whole(step_micros: i64, contents: Contents) -> Result<Scenario, ScenarioFault
         return Err(ScenarioFault::NoProblem);
     }
     Ok(Scenario {
-        version: Version::V2020a,
+        version: contents.version,
         step_micros,
         lanelets: contents.lanelets,
         obstacles: contents.obstacles,
@@ -66,9 +46,9 @@ fn scenario_in(alloc: Global, tree: &Tree<'_>) -> Result<Scenario, ScenarioFault
     ensures exact { Gives is_memory (λ s. s) result (scenario_in tree.now) }
     ensures sound { IfOk result IsScenario }
 {
-    let step = root(tree)?;
-    let contents = contents_of(alloc, tree)?;
-    whole(step, contents)
+    let head = root(tree)?;
+    let contents = contents_of(alloc, tree, head.version)?;
+    whole(head.step_micros, contents)
 }
 
 /// The tree of some bytes.

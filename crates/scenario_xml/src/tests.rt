@@ -10,3 +10,4 @@ mod ranges;
 mod roots;
 mod shapes;
 mod values;
+mod versions;

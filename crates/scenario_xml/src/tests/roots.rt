@@ -39,7 +39,7 @@ fn the_markup_is_tried_first(rt: HostRuntime) -> Result<(), Fail> {
 
 #[test]
 fn the_root_is_tried_before_its_children(rt: HostRuntime) {
-    let rows: [(&str, ScenarioFault); 14] = [
+    let rows: [(&str, ScenarioFault); 16] = [
         ("<road/>", ScenarioFault::WrongRoot),
         (
             "<CommonRoad commonRoadVersion='2020a' timeStepSize='0.1'/>",
@@ -67,11 +67,11 @@ fn the_root_is_tried_before_its_children(rt: HostRuntime) {
         ),
         (
             "<commonRoad commonRoadVersion='2018b'/>",
-            ScenarioFault::WrongVersion,
+            ScenarioFault::Missing(Wanted::TimeStepSize, 0),
         ),
         (
             "<commonRoad commonRoadVersion='2018b' timeStepSize='0'/>",
-            ScenarioFault::WrongVersion,
+            ScenarioFault::BadNumber(0),
         ),
         (
             "<commonRoad commonRoadVersion='' timeStepSize='0.1'/>",
@@ -83,6 +83,14 @@ fn the_root_is_tried_before_its_children(rt: HostRuntime) {
         ),
         (
             "<commonRoad commonRoadVersion='2020A' timeStepSize='0.1'/>",
+            ScenarioFault::WrongVersion,
+        ),
+        (
+            "<commonRoad commonRoadVersion='2018a' timeStepSize='0'/>",
+            ScenarioFault::WrongVersion,
+        ),
+        (
+            "<commonRoad commonRoadVersion='2018' timeStepSize='0.1'/>",
             ScenarioFault::WrongVersion,
         ),
         (
