@@ -24,7 +24,8 @@ use Rattle.rule_language.specs.declared.book.Book.{Book}
 use Rattle.rule_language.specs.declared.book.Rule.{Rule}
 use Rattle.rule_language.specs.declared.book.BookFault.{BookFault}
 use Rattle.rule_language.specs.declared.book.BookFault.TheVariants.{Syntax as Unread}
-use Rattle.rule_language.specs.declared.limits.TheConstants.{MAX_RULES, MAX_PARTS, MAX_WEIGHT}
+use Rattle.rule_language.specs.declared.limits.TheConstants.{MAX_PARTS}
+use Rattle.preorder.specs.declared.limits.TheConstants.{MAX_RULES}
 use Rattle.rule_language.specs.declared.part.Part.{Part}
 use Rattle.book_operations.specs.Aggregation.{IsAggregation, IsSumBy}
 use Rattle.book_operations.specs.Derivation.{Carries}
@@ -39,7 +40,7 @@ use Rattle.book_operations.specs.declared.kind.Accepted.TheVariants.{Refinement,
 use Rattle.book_operations.specs.declared.steps.Child.{Child}
 use Rattle.book_operations.proofs.Inserted.{all-between, different-between, apart, with-more}
 use Rattle.book_operations.proofs.Measured.{kept-measured, merged-measured}
-use Rattle.book_operations.proofs.MergedBook.{IsMerge, merged-is-book}
+use Rattle.book_operations.proofs.MergedBook.{IsMerge, merged-is-book, weight-from}
 use Rattle.book_operations.proofs.MergedSum.{merged-is-sum}
 
 -- ---- what is read, if anything
@@ -94,9 +95,6 @@ refine-is-book n kind a b book is =
 each-in : (size new count : ℕ) → count ≤ size → new < size → All (InRange size) (each_above new count)
 each-in size new zero le h = All-nil (InRange size)
 each-in size new (suc r) le h = All-append (InRange size) (each_above new r) ((r, new) ∷ []) (each-in size new r (omega (arith, le)) h) (All-cons (InRange size) (r, new) [] (omega (arith, le), h) (All-nil (InRange size)))
-
-weight-from : (w : ℕ) → IsTrue (is_weight w) → (1 ≤ w) × (w ≤ MAX_WEIGHT)
-weight-from w h = let g = and_parts (nat_le 1 w) (nat_le w MAX_WEIGHT) h in (grind (arith, nat_tests, g.0), grind (arith, nat_tests, g.1))
 
 augmented-is-book : (name : List ℕ) (part : Part) (book : Book) → IsBook book → IsTrue (is_name name) → IsPart name part → is_some (place_of name book.rules) ≡ false → length book.rules < MAX_RULES → IsBook (augmented name part book)
 augmented-is-book name part book is named fit fresh few =

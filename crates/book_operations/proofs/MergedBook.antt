@@ -75,7 +75,7 @@ given-good words rule is =
       scaled-good [] h = All-nil Good
       scaled-good (p ∷ ps) h = All-cons Good (scaled (times_in words rule.name) p) (map (scaled (times_in words rule.name)) ps) (h 0 p (omega arith)) (scaled-good ps (λ k d lt. h (suc k) d (omega (arith, lt))))
 
-weight-from : (w : ℕ) → IsTrue (is_weight w) → (1 ≤ w) × (w ≤ MAX_WEIGHT)
+pub weight-from : (w : ℕ) → IsTrue (is_weight w) → (1 ≤ w) × (w ≤ MAX_WEIGHT)
 weight-from w h = let g = and_parts (nat_le 1 w) (nat_le w MAX_WEIGHT) h in (grind (arith, nat_tests, g.0), grind (arith, nat_tests, g.1))
 
 module _ (words : List (List ℕ)) (book : Book) (new : Rule) (is : IsBook book) (merge : IsMerge words book new) where

@@ -1,9 +1,9 @@
 -- What the images of rules are.
-use Rattle.std.specs.Prelude.{◌≡◌, ℕ, ◌<◌, ◌≤◌, Bool, true, false, not, List, Option, Some, None, IsTrue, length, is_none, nat_lt}
+use Rattle.std.specs.Prelude.{◌≡◌, ℕ, ◌<◌, ◌≤◌, Bool, false, not, List, Option, Some, None, IsTrue, length, is_none, nat_lt}
 use Rattle.std.specs.List.{position, position_or_len}
 use Rattle.std.specs.Option.{unwrap_or}
 use Rattle.std.specs.Str.{bytes_eq}
-use Rattle.std.proofs.Common.{◌⊎◌, inl, inr, cond, ◌∙◌, ⊎_elim, refl, sym, ap, arith}
+use Rattle.std.proofs.Common.{◌⊎◌, inl, inr, ◌∙◌, ⊎_elim, refl, sym, ap, arith}
 use Rattle.std.proofs.lemmas.Bool.{both_ways, cases_Bool, cases_order, false≢true, not-true, not_from_false, false_from_ne_true, ltb-false}
 use Rattle.std.proofs.lemmas.List.Quantifiers.{position-Some}
 use Rattle.std.proofs.lemmas.List.Sums.{fails_before_first}
@@ -16,12 +16,9 @@ use Rattle.book_operations.specs.First.{IsFirst}
 use Rattle.book_operations.specs.Images.{rule_at, HasEqual, is_new, IsNew, image_at}
 use Rattle.book_operations.specs.Same.{has_equal}
 use Rattle.book_operations.proofs.Parts.{has_equal-from, has_equal-to}
+use Rattle.reading.proofs.Truth.{refused}
 
 -- ---- the first that passes a test
-
-refused : (b : Bool) (n : ℕ) → cond b (Some n) None ≡ None → b ≡ false
-refused true n e = absurd cc
-refused false n e = refl
 
 module _ (p : Rule → Bool) (rules : List Rule) where
   pub position-none : position p rules ≡ None → (r : ℕ) → r < length rules → p (rule_at rules r) ≡ false

@@ -85,16 +85,6 @@ sum_below-one f r (suc n) inside h =
       same_at : (r n : ℕ) → r ≡ n → f r ≡ f n
       same_at r n e = cc e
 
--- a kept rule, which no other rule becomes and whose multiplier is 1, has its own value
-pub Carries-kept : (size child_size : ℕ) (derivation : Derivation) (x child_x : List ℕ) → Carries size child_size derivation x child_x → (r : ℕ) → r < size → derivation.times r ≡ 1 → ((k : ℕ) → k < size → derivation.image k ≡ derivation.image r → k ≡ r) → slice_index child_x (derivation.image r) ≡ slice_index x r
-Carries-kept size child_size derivation x child_x carries r inside once alone =
-    let c = derivation.image r in
-    let only = sum_below-one (share derivation x c) r size inside (λ k h other.
-    ⊎_elim (λ e. absurd (other (alone k h e.1))) (λ ne. share-elsewhere derivation x x c k x ne.0) (eqb_tells (derivation.image k) c)) in
-    once_times (slice_index child_x c) (sum_below (share derivation x c) size) (share derivation x c r) (derivation.times r) (slice_index x r) (carries.total r inside) only (share-here derivation x x c r x refl) once where
-      once_times : (a s f t v : ℕ) → a ≡ s → s ≡ f → f ≡ t * v → t ≡ 1 → a ≡ v
-      once_times a s f t v e1 e2 e3 e4 = grind arith
-
 -- where each rule is kept, with a multiplier of 1, a vector with the same values carries the other
 pub Carries-from_kept : (size child_size : ℕ) (derivation : Derivation) (x child_x : List ℕ) → length x ≡ size → length child_x ≡ child_size → ((k r : ℕ) → k < size → r < size → derivation.image k ≡ derivation.image r → k ≡ r) → ((r : ℕ) → derivation.times r ≡ 1) → ((r : ℕ) → r < size → slice_index child_x (derivation.image r) ≡ slice_index x r) → Carries size child_size derivation x child_x
 Carries-from_kept size child_size derivation x child_x width child_width alone once same_value = record { width = width; child_width = child_width; total = total } where

@@ -1,4 +1,5 @@
--- What is measured of a book's rules, by a number for each part: as the values of parts along a trajectory are. This project's own.
+-- What is measured of a book's rules, by a number for each part: as the values of parts along a
+-- trajectory are. This project's own.
 use Rattle.std.specs.Prelude.{◌≡◌, ℕ, ◌*◌, List, map}
 use Rattle.std.specs.List.{sum_by}
 use Rattle.rule_language.specs.declared.book.Book.{Book}

@@ -1,5 +1,6 @@
 -- When two trees, parts and rules are the same, as tests. This project's own.
-use Rattle.std.specs.Prelude.{ℕ, ◌*◌, Bool, true, false, ◌&&◌, ◌==◌, List, [], ◌∷◌, Option, Some, None}
+use Rattle.std.specs.Prelude.{ℕ, ◌*◌, Bool, true, false, ◌&&◌, ◌==◌, List, [], ◌∷◌, Option, Some}
+use Rattle.std.specs.Prelude.{None}
 use Rattle.std.specs.List.{list_any}
 use Rattle.std.proofs.Math.Bool.{beq}
 use Rattle.std.specs.Ordering.{int_eq}
@@ -49,11 +50,14 @@ scaled times part = record part { weight = part.weight * times }
 
 -- the other part is this one with its weight multiplied
 abbrev pub is_times : ℕ → Part → Part → Bool
-is_times times part other = part.weight * times == other.weight && same_tree part.expr other.expr && beq part.at_end other.at_end
+is_times times part other =
+    part.weight * times == other.weight && same_tree part.expr other.expr
+    && beq part.at_end other.at_end
 
 abbrev pub are_times : ℕ → List Part → List Part → Bool
 are_times times [] [] = true
-are_times times (part ∷ parts) (other ∷ others) = is_times times part other && are_times times parts others
+are_times times (part ∷ parts) (other ∷ others) =
+    is_times times part other && are_times times parts others
 are_times times _ _ = false
 
 abbrev pub same_rule : Rule → Rule → Bool

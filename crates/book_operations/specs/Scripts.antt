@@ -1,5 +1,8 @@
--- What a script makes of a book, line by line: the step of each line, whether its test accepts it, and the first fault. This project's own.
-use Rattle.std.specs.Prelude.{◌≡◌, ◌⊎◌, IsTrue, ℕ, ◌+◌, Bool, true, false, not, List, [], ◌∷◌, ◌++◌, Option, Some, None, Result, Ok, Err, is_some, nat_le, nat_lt, length, if◌then◌else◌, codes}
+-- What a script makes of a book, line by line: the step of each line, whether its test accepts it,
+-- and the first fault. This project's own.
+use Rattle.std.specs.Prelude.{◌≡◌, ◌⊎◌, IsTrue, ℕ, ◌+◌, Bool, true, false, not, List, [], ◌∷◌, ◌++◌}
+use Rattle.std.specs.Prelude.{Option, Some, None, Result, Ok, Err, is_some, nat_le, nat_lt, length}
+use Rattle.std.specs.Prelude.{if◌then◌else◌, codes}
 use Rattle.std.proofs.Common.{zero, suc}
 use Rattle.std.specs.Str.{bytes_eq, is_utf8}
 use Rattle.reading.specs.Lines.{lines_of}
@@ -11,7 +14,7 @@ use Rattle.rule_language.specs.LineFiles.{content}
 use Rattle.rule_language.specs.declared.book.Book.{Book}
 use Rattle.rule_language.specs.declared.book.BookFault.{BookFault}
 use Rattle.rule_language.specs.declared.book.BookFault.TheVariants as in_book
-use Rattle.rule_language.specs.declared.limits.TheConstants.{MAX_RULES}
+use Rattle.preorder.specs.declared.limits.TheConstants.{MAX_RULES}
 use Rattle.rule_language.specs.declared.part.Part.{Part}
 use Rattle.rulebook_order.specs.NoWorse.{Beats}
 use Rattle.rulebook_order.specs.NoWorseUnder.{NoWorseUnder}
@@ -20,9 +23,13 @@ use Rattle.book_operations.specs.Kinds.{IsStep, IsStepFault, ShowsAs}
 use Rattle.book_operations.specs.Merging.{times_in, is_weight, merge_line}
 use Rattle.book_operations.specs.Tests.{size_of, becomes, once}
 use Rattle.book_operations.specs.declared.fault.DeriveFault.{DeriveFault}
-use Rattle.book_operations.specs.declared.fault.DeriveFault.TheVariants.{Syntax, UnknownRule, DuplicateName, BadWeight, TooManyRules, TooManyParts, NoMemory}
+use Rattle.book_operations.specs.declared.fault.DeriveFault.TheVariants.{Syntax, UnknownRule}
+use Rattle.book_operations.specs.declared.fault.DeriveFault.TheVariants.{DuplicateName, BadWeight}
+use Rattle.book_operations.specs.declared.fault.DeriveFault.TheVariants.{TooManyRules, TooManyParts}
+use Rattle.book_operations.specs.declared.fault.DeriveFault.TheVariants.{NoMemory}
 use Rattle.book_operations.specs.declared.kind.Accepted.{Accepted}
-use Rattle.book_operations.specs.declared.kind.Accepted.TheVariants.{Refinement, Aggregation, Augmentation}
+use Rattle.book_operations.specs.declared.kind.Accepted.TheVariants.{Refinement, Aggregation}
+use Rattle.book_operations.specs.declared.kind.Accepted.TheVariants.{Augmentation}
 use Rattle.book_operations.specs.declared.steps.Child.{Child}
 
 -- the one fault that may come at any time
@@ -61,7 +68,10 @@ each_above new (suc r) = each_above new r ++ (r, new) ∷ []
 abbrev pub augmented : List ℕ → Part → Book → Book
 augmented name part book =
     let new = length book.rules in
-    record { rules = book.rules ++ (record { name = name; parts = part ∷ [] }) ∷ []; statements = book.statements ++ each_above new new }
+    record {
+      rules = book.rules ++ (record { name = name; parts = part ∷ [] }) ∷ [];
+      statements = book.statements ++ each_above new new;
+    }
 
 -- `augment NEW WEIGHT EXPR` on line n
 unfoldable pub augment_line : ℕ → List ℕ → List ℕ → List (List ℕ) → Book → Result Book DeriveFault
@@ -85,7 +95,8 @@ merge_words n (name ∷ words) book = to_test Aggregation (merge_line n name wor
 merge_words n [] book = Err (Syntax n)
 
 abbrev pub augment_words : ℕ → List (List ℕ) → Book → Result Child DeriveFault
-augment_words n (name ∷ weight ∷ expr) book = to_test Augmentation (augment_line n name weight expr book)
+augment_words n (name ∷ weight ∷ expr) book =
+    to_test Augmentation (augment_line n name weight expr book)
 augment_words n words book = Err (Syntax n)
 
 -- the child that line n makes, by its words
@@ -101,9 +112,11 @@ abbrev pub words_child : ℕ → List (List ℕ) → Book → Result (Option Chi
 words_child n [] book = Ok None
 words_child n (word ∷ words) book = script_words n (word ∷ words) book >>= λ child. Ok (Some child)
 
--- the child that line n makes of the book, if it has a word, by its length with its comment and its text without it
+-- the child that line n makes of the book, if it has a word, by its length with its comment and its
+-- text without it
 abbrev pub text_child : ℕ → ℕ → List ℕ → Book → Result (Option Child) DeriveFault
-text_child n len text book = if nat_lt MAX_LINE len then Err (Syntax n) else words_child n (words text) book
+text_child n len text book =
+    if nat_lt MAX_LINE len then Err (Syntax n) else words_child n (words text) book
 
 -- the same by the whole line; comments, blanks and the limit of a line are as in a book
 abbrev pub line_child : ℕ → List ℕ → Book → Result (Option Child) DeriveFault
@@ -117,19 +130,24 @@ Leaves book (Ok None) next = book ≡ next
 Leaves book (Ok (Some child)) next = (child.book ≡ next) × IsStep book child.book child.kind
 Leaves book (Err fault) next = ⊥
 
--- the fault of a line: its own, or that of the test of its child, whose two vectors show a preference that the child loses
+-- the fault of a line: its own, or that of the test of its child, whose two vectors show a
+-- preference that the child loses
 abbrev pub IsLineFault : Book → Result (Option Child) DeriveFault → DeriveFault → Type 0
 IsLineFault book (Ok None) fault = ⊥
-IsLineFault book (Ok (Some child)) fault = IsStepFault book child.book child.kind fault × ShowsAs book child.book child.kind fault
+IsLineFault book (Ok (Some child)) fault =
+    IsStepFault book child.book child.kind fault × ShowsAs book child.book child.kind fault
 IsLineFault book (Err own) fault = own ≡ fault
 
--- The lines, of which the first is the n-th of its script, derive the last book from the book: each line makes a child of the book before it, which its test accepts.
+-- The lines, of which the first is the n-th of its script, derive the last book from the book: each
+-- line makes a child of the book before it, which its test accepts.
 unfoldable pub Derives : ℕ → List (List ℕ) → Book → Book → Type 0
 Derives n [] book last = book ≡ last
-Derives n (line ∷ lines) book last = (next : Book) × Leaves book (line_child n line book) next × Derives (n + 1) lines next last
+Derives n (line ∷ lines) book last =
+    (next : Book) × Leaves book (line_child n line book) next × Derives (n + 1) lines next last
 
 -- the first fault: the lines before it derive a book, of which this line is refused, by its number
-pub record IsFirstRefused (n : ℕ) (lines : List (List ℕ)) (book : Book) (fault : DeriveFault) : Type 0 where
+pub record IsFirstRefused (n : ℕ) (lines : List (List ℕ)) (book : Book)
+    (fault : DeriveFault) : Type 0 where
   pub before : List (List ℕ)
   pub line : List ℕ
   pub after : List (List ℕ)
@@ -145,11 +163,14 @@ pub record IsDerivedBy (script : List ℕ) (first last : Book) : Type 0 where
 
 -- the first fault of a script; one that is not UTF-8 has a first line that is none
 abbrev pub IsScriptFault : List ℕ → Book → DeriveFault → Type 0
-IsScriptFault script first fault = (IsTrue (is_utf8 script) × IsFirstRefused 1 (lines_of script) first fault) ⊎ ((is_utf8 script ≡ false) × (fault ≡ Syntax 1))
+IsScriptFault script first fault =
+    (IsTrue (is_utf8 script) × IsFirstRefused 1 (lines_of script) first fault)
+    ⊎ ((is_utf8 script ≡ false) × (fault ≡ Syntax 1))
 
 -- ---- what a script keeps
 
--- by what the line's words multiply the values of the rule of this name: a merge by what it names, all others by 1
+-- by what the line's words multiply the values of the rule of this name: a merge by what it names,
+-- all others by 1
 abbrev pub multiplier : List (List ℕ) → List ℕ → ℕ
 multiplier (kind ∷ new ∷ words) = if bytes_eq kind (codes "merge") then times_in words else once
 multiplier words = once
@@ -158,26 +179,33 @@ abbrev pub line_multiplier : List ℕ → List ℕ → ℕ
 line_multiplier line = multiplier (words (content line))
 
 -- y, of what a line leaves of the book, carries x of the book, where the line multiplies so
-abbrev pub CarriesOver : Book → (List ℕ → ℕ) → Result (Option Child) DeriveFault → List ℕ → List ℕ → Type 0
+abbrev pub CarriesOver : Book → (List ℕ → ℕ) → Result (Option Child) DeriveFault → List ℕ → List ℕ
+    → Type 0
 CarriesOver book times (Ok None) x y = x ≡ y
-CarriesOver book times (Ok (Some child)) x y = Carries (size_of book) (size_of child.book) (becomes book child.book times) x y
+CarriesOver book times (Ok (Some child)) x y =
+    Carries (size_of book) (size_of child.book) (becomes book child.book times) x y
 CarriesOver book times (Err fault) x y = ⊥
 
 -- last_x carries x through the lines: from book to book there are vectors that carry one another
 unfoldable pub CarriesThrough : ℕ → List (List ℕ) → Book → List ℕ → List ℕ → Type 0
 CarriesThrough n [] book x last_x = x ≡ last_x
 CarriesThrough n (line ∷ lines) book x last_x =
-    (next : Book) × (y : List ℕ) × Leaves book (line_child n line book) next × CarriesOver book (line_multiplier line) (line_child n line book) x y × CarriesThrough (n + 1) lines next y last_x
+    (next : Book) × (y : List ℕ) × Leaves book (line_child n line book) next
+    × CarriesOver book (line_multiplier line) (line_child n line book) x y
+    × CarriesThrough (n + 1) lines next y last_x
 
 abbrev pub BeatsIn : Book → List ℕ → List ℕ → Type 0
 BeatsIn book = Beats (NoWorseUnder book.statements (size_of book))
 
--- whatever vectors of the last book carry two vectors of the first through the lines: where the one beats the other in the first, so it does in the last
+-- whatever vectors of the last book carry two vectors of the first through the lines: where the one
+-- beats the other in the first, so it does in the last
 abbrev pub KeepsThrough : ℕ → List (List ℕ) → Book → Book → Type 0
 KeepsThrough n lines first last =
-    (x y last_x last_y : List ℕ) → CarriesThrough n lines first x last_x → CarriesThrough n lines first y last_y → BeatsIn first x y → BeatsIn last last_x last_y
+    (x y last_x last_y : List ℕ) → CarriesThrough n lines first x last_x
+    → CarriesThrough n lines first y last_y → BeatsIn first x y → BeatsIn last last_x last_y
 
 -- the same over one line
 abbrev pub KeepsOver : Book → (List ℕ → ℕ) → Result (Option Child) DeriveFault → Book → Type 0
 KeepsOver book times made next =
-    (x y next_x next_y : List ℕ) → CarriesOver book times made x next_x → CarriesOver book times made y next_y → BeatsIn book x y → BeatsIn next next_x next_y
+    (x y next_x next_y : List ℕ) → CarriesOver book times made x next_x
+    → CarriesOver book times made y next_y → BeatsIn book x y → BeatsIn next next_x next_y

@@ -1,4 +1,5 @@
-ghost use Rattle.std.specs.Prelude.{◌≡◌, ℕ, ◌<◌, ◌≤◌, ◌&&◌, List, not, length, IfSome, IfOk, IfErr, OnOk, MatchOption, IsTrue};
+ghost use Rattle.std.specs.Prelude.{◌≡◌, ℕ, ◌<◌, ◌≤◌, ◌&&◌, List, not, length, IfSome, IfOk, IfErr};
+ghost use Rattle.std.specs.Prelude.{OnOk, MatchOption, IsTrue};
 ghost use Rattle.std.specs.List.{position};
 ghost use Rattle.std.specs.Option.{unwrap_or};
 ghost use Rattle.preorder.specs.Preorder.{rules_of, same};
@@ -6,7 +7,9 @@ ghost use Rattle.rule_language.specs.Books.{IsBook};
 ghost use Rattle.book_operations.specs.First.{IsFirst};
 ghost use Rattle.book_operations.specs.Images.{IsNew, is_new};
 ghost use Rattle.book_operations.specs.Same.{has_equal};
-ghost use Rattle.book_operations.specs.Aggregation.{MergesRules, DiffersInRules, MergedAreOneClass, SplitsClass, IsSumBy, IsNoSum, IsAggregation, IsAggregationFault};
+ghost use Rattle.book_operations.specs.Aggregation.{MergesRules, DiffersInRules, MergedAreOneClass};
+ghost use Rattle.book_operations.specs.Aggregation.{SplitsClass, IsSumBy, IsNoSum, IsAggregation};
+ghost use Rattle.book_operations.specs.Aggregation.{IsAggregationFault};
 ghost use Rattle.book_operations.specs.Tests.{KeepsPreferencesOf, ShowsLoss};
 
 use crate::fault::DeriveFault;
@@ -36,20 +39,24 @@ fn next_new(rules: &[Rule], others: &[Rule], after: usize) -> Option<usize>
 // The first rule that has its name among the others, with other parts.
 fn first_changed(rules: &[Rule], others: &[Rule]) -> Option<usize>
     ensures inside { IfSome result (λ i. i < length rules.now) }
-    ensures exact { result ≡ position (λ rule. not (is_new others.now rule) && not (has_equal others.now rule)) rules.now }
+    ensures exact { result ≡ position (λ rule. not (is_new others.now rule)
+        && not (has_equal others.now rule)) rules.now }
 {
     rules
         .iter()
         .position(|rule| !is_new(others, rule) && !has_equal(others, rule))
 }
 
-// The place of the first merged rule and that of the new rule, where the rules differ as those of a merge do.
+// The place of the first merged rule and that of the new rule, where the rules differ as those of a
+// merge do.
 fn merged_and_new(rules: &[Rule], others: &[Rule]) -> Result<(usize, usize), DeriveFault>
     requires some { 1 ≤ length rules.now }
     ensures ok { OnOk result (MergesRules rules.now others.now) }
-    ensures merged { IfOk result (λ pair. IsFirst (length rules.now) (IsNew rules.now others.now) pair.0) }
+    ensures merged { IfOk result (λ pair. IsFirst (length rules.now)
+        (IsNew rules.now others.now) pair.0) }
     ensures inside { IfOk result (λ pair. pair.1 < length others.now) }
-    ensures new { IfOk result (λ pair. pair.1 ≡ unwrap_or (position (is_new rules.now) others.now) 0) }
+    ensures new { IfOk result (λ pair. pair.1 ≡ unwrap_or
+        (position (is_new rules.now) others.now) 0) }
     ensures err { IfErr result (DiffersInRules rules.now others.now) }
 {
     let Some(merged) = first_new(rules, others) else {
@@ -75,8 +82,10 @@ fn first_apart(order: &Preorder, rules: &[Rule], others: &[Rule], merged: usize)
     requires width { rules_of order.now ≡ length rules.now }
     requires merged { merged < length rules.now }
     ensures { MatchOption result
-        ((k : ℕ) → merged < k → k < length rules.now → IsNew rules.now others.now k → IsTrue (same order.now merged k))
-        (IsFirst (length rules.now) (λ k. (merged < k) × IsNew rules.now others.now k × ¬ IsTrue (same order.now merged k))) }
+        ((k : ℕ) → merged < k → k < length rules.now → IsNew rules.now others.now k
+        → IsTrue (same order.now merged k))
+        (IsFirst (length rules.now) (λ k. (merged < k) × IsNew rules.now others.now k
+        × ¬ IsTrue (same order.now merged k))) }
 {
     for later in merged + 1..rules.len() {
         if is_new(others, &rules[later]) && !order.same(merged, later) {
@@ -89,7 +98,8 @@ fn first_apart(order: &Preorder, rules: &[Rule], others: &[Rule], merged: usize)
 // Whether the merged rules, of which this is the first, are of one class.
 fn keep_class(parent: &Book, child: &Book, merged: usize) -> Result<(), DeriveFault>
     requires parent { IsBook parent.now }
-    requires first { IsFirst (length parent.now.rules) (IsNew parent.now.rules child.now.rules) merged }
+    requires first { IsFirst (length parent.now.rules)
+        (IsNew parent.now.rules child.now.rules) merged }
     ensures ok { OnOk result (MergedAreOneClass parent.now child.now) }
     ensures err { IfErr result (SplitsClass parent.now child.now) }
 {
@@ -119,21 +129,23 @@ fn keep_sum(parent: &Book, child: &Book, new: usize) -> Result<(), DeriveFault>
     Ok(())
 }
 
-/// Whether the child has one new rule in place of two or more of the parent's that are of one class, as their sum, all
-/// other rules, and each strict pair.
+/// Whether the child has one new rule in place of two or more of the parent's that are of one
+/// class, as their sum, all other rules, and each strict pair.
 pub fn test_aggregation(alloc: Global, parent: &Book, child: &Book) -> Result<(), DeriveFault>
     requires parent { IsBook parent.now }
     requires child { IsBook child.now }
     ensures accepts { OnOk result (IsAggregation parent.now child.now) }
 
     // What is accepted keeps the parent's preferences, where the new rule's value is the sum.
-    ensures keeps { OnOk result ((times : List ℕ → ℕ) → IsSumBy parent.now child.now times → KeepsPreferencesOf parent.now child.now times) }
+    ensures keeps { OnOk result ((times : List ℕ → ℕ) → IsSumBy parent.now child.now times
+        → KeepsPreferencesOf parent.now child.now times) }
 
     // What is refused has a first fault.
     ensures refuses { IfErr result (IsAggregationFault parent.now child.now) }
 
     // The two vectors of a lost pair show a preference that the child loses.
-    ensures shows { IfErr result (λ fault. (times : List ℕ → ℕ) → IsSumBy parent.now child.now times → ShowsLoss parent.now child.now times fault) }
+    ensures shows { IfErr result (λ fault. (times : List ℕ → ℕ) → IsSumBy parent.now child.now times
+        → ShowsLoss parent.now child.now times fault) }
 {
     let (merged, new) = merged_and_new(parent.rules.as_slice(), child.rules.as_slice())?;
     keep_class(parent, child, merged)?;

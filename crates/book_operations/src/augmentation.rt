@@ -1,9 +1,12 @@
-ghost use Rattle.std.specs.Prelude.{◌≡◌, ℕ, ◌<◌, All, length, slice_index, MatchOption, IsTrue, IfErr, OnOk};
+ghost use Rattle.std.specs.Prelude.{◌≡◌, ℕ, ◌<◌, All, length, slice_index, MatchOption, IsTrue};
+ghost use Rattle.std.specs.Prelude.{IfErr, OnOk};
 ghost use Rattle.preorder.specs.Preorder.{rules_of, above};
 ghost use Rattle.rule_language.specs.Books.{IsBook};
 ghost use Rattle.book_operations.specs.First.{IsFirst, IsFirstPair};
 ghost use Rattle.book_operations.specs.Images.{AreImages, IsRaised};
-ghost use Rattle.book_operations.specs.Tests.{AddedAreLowest, HasRulesOf, KeepsPreferencesOf, RaisesAdded, ShowsLoss, IsAugmentation, IsAugmentationFault, once};
+ghost use Rattle.book_operations.specs.Tests.{AddedAreLowest, HasRulesOf, KeepsPreferencesOf};
+ghost use Rattle.book_operations.specs.Tests.{RaisesAdded, ShowsLoss, IsAugmentation};
+ghost use Rattle.book_operations.specs.Tests.{IsAugmentationFault, once};
 
 use crate::fault::DeriveFault;
 use crate::images::{images_of, is_new, keep_rules};
@@ -17,8 +20,10 @@ fn first_not_above(order: &Preorder, images: &[usize], rule: usize) -> Option<us
     requires inside { All (λ i. i < rules_of order.now) images.now }
     requires rule { rule < rules_of order.now }
     ensures { MatchOption result
-        ((old : ℕ) → old < length images.now → IsTrue (above order.now (slice_index images.now old) rule))
-        (IsFirst (length images.now) (λ old. ¬ IsTrue (above order.now (slice_index images.now old) rule))) }
+        ((old : ℕ) → old < length images.now → IsTrue
+        (above order.now (slice_index images.now old) rule))
+        (IsFirst (length images.now) (λ old. ¬ IsTrue
+        (above order.now (slice_index images.now old) rule))) }
 {
     for old in 0..images.len() {
         if !order.above(images[old], rule) {
@@ -28,8 +33,8 @@ fn first_not_above(order: &Preorder, images: &[usize], rule: usize) -> Option<us
     None
 }
 
-// The first rule that is none of the others and is not below each of the images, with the first of these that is not
-// above it.
+// The first rule that is none of the others and is not below each of the images, with the first of
+// these that is not above it.
 fn first_raised(
     order: &Preorder,
     rules: &[Rule],
@@ -39,8 +44,10 @@ fn first_raised(
     requires width { rules_of order.now ≡ length rules.now }
     requires inside { All (λ i. i < rules_of order.now) images.now }
     ensures { MatchOption result
-        ((new old : ℕ) → new < length rules.now → old < length images.now → ¬ IsRaised rules.now others.now order.now images.now new old)
-        (λ pair. IsFirstPair (length rules.now) (length images.now) (IsRaised rules.now others.now order.now images.now) pair.0 pair.1) }
+        ((new old : ℕ) → new < length rules.now → old < length images.now
+        → ¬ IsRaised rules.now others.now order.now images.now new old)
+        (λ pair. IsFirstPair (length rules.now) (length images.now)
+        (IsRaised rules.now others.now order.now images.now) pair.0 pair.1) }
 {
     for new in 0..rules.len() {
         if is_new(others, &rules[new]) {
@@ -80,7 +87,8 @@ fn keep_lowest(
     Ok(())
 }
 
-/// Whether the child has the parent's rules, each of its strict pairs, and the other rules below them.
+/// Whether the child has the parent's rules, each of its strict pairs, and the other rules below
+/// them.
 pub fn test_augmentation(alloc: Global, parent: &Book, child: &Book) -> Result<(), DeriveFault>
     requires parent { IsBook parent.now }
     requires child { IsBook child.now }
@@ -92,7 +100,8 @@ pub fn test_augmentation(alloc: Global, parent: &Book, child: &Book) -> Result<(
     // What is refused has a first fault.
     ensures refuses { IfErr result (IsAugmentationFault parent.now child.now) }
 
-    // The two vectors of a lost pair, and of a new rule that is not lowest, show a preference that the child loses.
+    // The two vectors of a lost pair, and of a new rule that is not lowest, show a preference that
+    // the child loses.
     ensures shows { IfErr result (ShowsLoss parent.now child.now once) }
 {
     keep_rules(parent.rules.as_slice(), child.rules.as_slice())?;

@@ -2,7 +2,8 @@ ghost use Rattle.std.specs.Prelude.{◌≡◌, ◌≤◌, IsTrue, IfSome, map};
 ghost use Rattle.std.specs.Option.{unwrap_or};
 ghost use Rattle.std.specs.Str.{bytes_eq};
 ghost use Rattle.rule_language.specs.declared.limits.TheConstants.{MAX_WEIGHT as LARGEST};
-ghost use Rattle.book_operations.specs.Merging.{weight_in, factor_in, are_factors, are_known, is_weight, are_weights, is_merged};
+ghost use Rattle.book_operations.specs.Merging.{weight_in, factor_in, are_factors, are_known};
+ghost use Rattle.book_operations.specs.Merging.{is_weight, are_weights, is_merged};
 
 use crate::images::place_of;
 use preorder::Name;

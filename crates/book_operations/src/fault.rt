@@ -4,13 +4,14 @@ ghost use Rattle.book_operations.specs.Scripts.{line_fault};
 use preorder::{Name, NoMemory, Violation};
 use rule_language::BookFault;
 
-/// Why a child book, or a script, is refused. A number is that of the first faulty line of a script, counted from 1. Of the
-/// faults of a line, the one that stands first here is named, but for a part that does not fit its written line.
+/// Why a child book, or a script, is refused. A number is that of the first faulty line of a
+/// script, counted from 1. Of the faults of a line, the one that stands first here is named, but
+/// for a part that does not fit its written line.
 #[derive(Drop)]
 pub enum DeriveFault {
-    /// The line has not the form of one of a script, or more than `MAX_LINE` bytes, or the part that it makes does not fit
-    /// its written line (`written_fits`). A part that a `merge` makes is looked at last of all. A script that is not UTF-8
-    /// is refused with the number 1.
+    /// The line has not the form of one of a script, or more than `MAX_LINE` bytes, or the part
+    /// that it makes does not fit its written line (`written_fits`). A part that a `merge` makes is
+    /// looked at last of all. A script that is not UTF-8 is refused with the number 1.
     Syntax(usize),
     /// A name is that of no rule of the book.
     UnknownRule(usize),
@@ -26,14 +27,16 @@ pub enum DeriveFault {
     RulesDiffer(Name),
     /// The two rules are merged and neither is at least the other, or one alone.
     NotOneClass(Name, Name),
-    /// The parts of the new rule are not, in order, those of the merged rules with the weights of each multiplied by one
-    /// whole number.
+    /// The parts of the new rule are not, in order, those of the merged rules with the weights of
+    /// each multiplied by one whole number.
     NotASum(Name),
-    /// The first rule is above the second in the parent, and not in the child. The first vector is 1 at the second
-    /// rule alone, and the second vector is 1 at the first rule alone, in the parent's order.
+    /// The first rule is above the second in the parent, and not in the child. The first vector is
+    /// 1 at the second rule alone, and the second vector is 1 at the first rule alone, in the
+    /// parent's order.
     StrictLost(Name, Name, Violation, Violation),
-    /// The first rule is new, and the second, an old one, is not above it in the child. The first vector is 1 at the
-    /// new rule alone, and the second vector is 1 at the old rule alone, in the child's order.
+    /// The first rule is new, and the second, an old one, is not above it in the child. The first
+    /// vector is 1 at the new rule alone, and the second vector is 1 at the old rule alone, in the
+    /// child's order.
     NotLowest(Name, Name, Violation, Violation),
     /// Memory could not be had.
     NoMemory,

@@ -1,7 +1,8 @@
 ghost use Rattle.std.specs.Prelude.{◌≡◌, ◌<◌, ◌≤◌, ℕ, not, length, IfSome, IfOk, IfErr, OnOk};
 ghost use Rattle.std.specs.List.{position};
 ghost use Rattle.rule_language.specs.Books.{place_of};
-ghost use Rattle.book_operations.specs.Images.{HasEqual, IsNew, is_new, AreImages, LacksEqual, HasNewName};
+ghost use Rattle.book_operations.specs.Images.{HasEqual, IsNew, is_new, AreImages, LacksEqual};
+ghost use Rattle.book_operations.specs.Images.{HasNewName};
 ghost use Rattle.book_operations.specs.Same.{has_equal};
 
 use crate::fault::DeriveFault;
@@ -63,7 +64,8 @@ pub fn keep_names(rules: &[Rule], others: &[Rule]) -> Result<(), DeriveFault>
     }
 }
 
-/// What each rule becomes among the others: the rule of its name, or where they lack it the first with a new name.
+/// What each rule becomes among the others: the rule of its name, or where they lack it the first
+/// with a new name.
 pub fn images_of(alloc: Global, rules: &[Rule], others: &[Rule]) -> Result<List<usize>, NoMemory>
     requires some { 1 ≤ length others.now }
     ensures { IfOk result (AreImages rules.now others.now) }

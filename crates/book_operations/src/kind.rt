@@ -67,8 +67,9 @@ pub fn test_kind(
     }
 }
 
-/// Whether the child is a step from its parent, by the test that the names of its rules call for: a refinement where
-/// both have the same names, an augmentation where the child has all of the parent's and more, and else an aggregation.
+/// Whether the child is a step from its parent, by the test that the names of its rules call for: a
+/// refinement where both have the same names, an augmentation where the child has all of the
+/// parent's and more, and else an aggregation.
 pub fn accept(alloc: Global, parent: &Book, child: &Book) -> Result<Accepted, DeriveFault>
     requires parent { IsBook parent.now }
     requires child { IsBook child.now }
@@ -78,8 +79,10 @@ pub fn accept(alloc: Global, parent: &Book, child: &Book) -> Result<Accepted, De
     // What is accepted keeps the parent's preferences.
     ensures keeps { IfOk result (KeepsAs parent.now child.now) }
 
-    // What is refused has a first fault by the test of its kind, and its two vectors show a preference that is lost.
-    ensures refuses { IfErr result (λ fault. (kind : Accepted) × IsOfKind parent.now child.now kind × IsStepFault parent.now child.now kind fault × ShowsAs parent.now child.now kind fault) }
+    // What is refused has a first fault by the test of its kind, and its two vectors show a
+    // preference that is lost.
+    ensures refuses { IfErr result (λ fault. (kind : Accepted) × IsOfKind parent.now child.now kind
+        × IsStepFault parent.now child.now kind fault × ShowsAs parent.now child.now kind fault) }
 {
     let kind = kind_of(parent, child);
     test_kind(alloc, kind, parent, child)?;

@@ -1,7 +1,10 @@
 //! Books derived from books: when a child keeps the preferences of its parent.
 //!
-//! The layer above uses that a child that a test accepts keeps the preferences of its parent, and that the two vectors of a refusal show that it does not.
-//! The definitions stand in `specs/Derivation.antt` and `specs/Tests.antt`; the theorem on preferences in `proofs/Preferences.antt`, the two vectors of a refusal in `proofs/Witnesses.antt`.
+//! The layer above uses that a child that a test accepts keeps the preferences of its parent, and
+//! that the two vectors of a refusal show that it does not.
+//! The definitions stand in `specs/Derivation.antt` and `specs/Tests.antt`; the theorem on
+//! preferences in `proofs/Preferences.antt`, the two vectors of a refusal in
+//! `proofs/Witnesses.antt`.
 #![tactic(auto)]
 
 mod aggregation;

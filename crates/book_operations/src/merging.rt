@@ -1,4 +1,5 @@
-ghost use Rattle.std.specs.Prelude.{◌≡◌, [], ◌∷◌, ◌++◌, ◌<◌, ◌≤◌, ℕ, All, IsTrue, IfOk, IfSome, OnOk, List as Items, not, length, map};
+ghost use Rattle.std.specs.Prelude.{◌≡◌, [], ◌∷◌, ◌++◌, ◌<◌, ◌≤◌, ℕ, All, IsTrue, IfOk, IfSome};
+ghost use Rattle.std.specs.Prelude.{OnOk, List as Items, not, length, map};
 ghost use Rattle.std.specs.List.{flat_map, position};
 ghost use Rattle.preorder.specs.Statements.{InRange};
 ghost use Rattle.reading.specs.Reading.{Gives};
@@ -6,7 +7,11 @@ ghost use Rattle.rule_language.specs.Books.{IsBook, IsRule};
 ghost use Rattle.rule_language.specs.declared.limits.TheConstants.{MAX_WEIGHT as LARGEST};
 ghost use Rattle.rule_language.specs.declared.part.Part.{Part};
 ghost use Rattle.book_operations.specs.Images.{AreImages, is_new};
-ghost use Rattle.book_operations.specs.Merging.{factor_in, are_factors, are_known, is_weight, are_weights, is_merged, given_parts, merged_parts, fits, kept_rules, first_merged, with_new, restated, merged_book, new_name, with_parts, merge_line, weight_in};
+ghost use Rattle.book_operations.specs.Merging.{factor_in, are_factors, are_known, is_weight};
+ghost use Rattle.book_operations.specs.Merging.{are_weights, is_merged, given_parts, merged_parts};
+ghost use Rattle.book_operations.specs.Merging.{fits, kept_rules, first_merged, with_new, restated};
+ghost use Rattle.book_operations.specs.Merging.{merged_book, new_name, with_parts, merge_line};
+ghost use Rattle.book_operations.specs.Merging.{weight_in};
 ghost use Rattle.book_operations.specs.Same.{scaled};
 ghost use Rattle.book_operations.specs.Scripts.{is_memory};
 ghost use Rattle.std.specs.List.{list_all};
@@ -61,7 +66,8 @@ fn push_given(
 ) -> Result<(), NoMemory>
     requires rule { IsRule rule.now }
     requires weights { IsTrue (are_weights (map (λ w. w.now) words.now)) }
-    ensures { OnOk result (parts.new ≡ parts.old ++ given_parts (map (λ w. w.now) words.now) rule.now) }
+    ensures { OnOk result (parts.new ≡ parts.old ++ given_parts
+        (map (λ w. w.now) words.now) rule.now) }
 {
     match small_factor(words, rule.name.as_slice()) {
         Some(times) => push_all_scaled(alloc, parts, times, rule.parts.as_slice()),
@@ -103,7 +109,8 @@ fn push_kept(
     words: &[&[u8]],
     rules: &[Rule],
 ) -> Result<(), NoMemory>
-    ensures { OnOk result (kept.new ≡ kept.old ++ kept_rules (map (λ w. w.now) words.now) rules.now) }
+    ensures { OnOk result (kept.new ≡ kept.old ++ kept_rules
+        (map (λ w. w.now) words.now) rules.now) }
 {
     for rule in rules {
         if !is_merged(words, rule) {
@@ -140,7 +147,8 @@ fn push_restated(
 ) -> Result<(), NoMemory>
     requires images { AreImages rules.now others.now images.now }
     requires inside { InRange (length rules.now) statement }
-    ensures { OnOk result (statements.new ≡ statements.old ++ restated rules.now others.now statement) }
+    ensures { OnOk result (statements.new ≡ statements.old
+        ++ restated rules.now others.now statement) }
 {
     let new = first_new(others, rules).unwrap_or(0);
     let (upper, lower) = (images[statement.0], images[statement.1]);
@@ -195,7 +203,8 @@ fn all_fit(name: &Name, parts: &[Part]) -> bool
     parts.iter().all(|part| written_fits(name, part))
 }
 
-// The new name, if the line has its form, its rules are there, the name is new, and each weight is one.
+// The new name, if the line has its form, its rules are there, the name is new, and each weight is
+// one.
 #[tactic(auto, unfolding(crate::specs::Merging::new_name))]
 fn new_name(
     number: usize,
@@ -203,7 +212,8 @@ fn new_name(
     words: &[&[u8]],
     rules: &[Rule],
 ) -> Result<Name, DeriveFault>
-    ensures name { Gives is_memory (λ new. new) result (new_name number name.now (map (λ w. w.now) words.now) rules.now) }
+    ensures name { Gives is_memory (λ new. new) result
+        (new_name number name.now (map (λ w. w.now) words.now) rules.now) }
     ensures weights { OnOk result (IsTrue (are_weights (map (λ w. w.now) words.now))) }
 {
     let Some(new) = Name::new(name) else {
@@ -224,7 +234,8 @@ fn new_name(
     Ok(new)
 }
 
-// The rule with these parts, if each weight is one, there are not too many, and each fits its written line.
+// The rule with these parts, if each weight is one, there are not too many, and each fits its
+// written line.
 #[tactic(auto, unfolding(crate::specs::Merging::with_parts))]
 fn with_parts(number: usize, name: Name, parts: List<Part>) -> Result<Rule, DeriveFault>
     ensures { Gives is_memory (λ rule. rule) result (with_parts number name parts) }
@@ -241,7 +252,8 @@ fn with_parts(number: usize, name: Name, parts: List<Part>) -> Result<Rule, Deri
     Ok(Rule { name, parts })
 }
 
-/// The child of the line `merge NEW W1 A1 W2 A2 ..`, of which `name` and `words` are the words after the first.
+/// The child of the line `merge NEW W1 A1 W2 A2 ..`, of which `name` and `words` are the words
+/// after the first.
 #[tactic(auto, unfolding(crate::specs::Merging::merge_line))]
 pub fn merged(
     alloc: Global,
@@ -251,7 +263,8 @@ pub fn merged(
     book: &Book,
 ) -> Result<Book, DeriveFault>
     requires { IsBook book.now }
-    ensures { Gives is_memory (λ child. child) result (merge_line number name.now (map (λ w. w.now) words.now) book.now) }
+    ensures { Gives is_memory (λ child. child) result
+        (merge_line number name.now (map (λ w. w.now) words.now) book.now) }
 {
     let new = new_name(number, name, words, book.rules.as_slice())?;
     let parts = merged_parts(alloc, words, book.rules.as_slice())?;

@@ -3,7 +3,9 @@ ghost use Rattle.preorder.specs.Violation.{IsWidth};
 ghost use Rattle.rule_language.specs.Books.{IsBook};
 ghost use Rattle.book_operations.specs.Derivation.{one_at};
 ghost use Rattle.book_operations.specs.Images.{AreImages};
-ghost use Rattle.book_operations.specs.Tests.{OthersAreLowest, IsCounted, MergesClasses, KeepsPreferencesOf, KeepsStrictPairs, LosesPair, ShowsLoss, IsRefinement, IsRefinementFault, once};
+ghost use Rattle.book_operations.specs.Tests.{OthersAreLowest, IsCounted, MergesClasses};
+ghost use Rattle.book_operations.specs.Tests.{KeepsPreferencesOf, KeepsStrictPairs, LosesPair};
+ghost use Rattle.book_operations.specs.Tests.{ShowsLoss, IsRefinement, IsRefinementFault, once};
 
 use crate::fault::DeriveFault;
 use crate::images::{images_of, keep_names, keep_rules};
@@ -23,7 +25,8 @@ pub fn one_at(alloc: Global, width: usize, rule: usize) -> Result<Violation, NoM
     Ok(values)
 }
 
-/// Whether each strict pair of the parent is one of the child, where the parent's rules become those at the images.
+/// Whether each strict pair of the parent is one of the child, where the parent's rules become
+/// those at the images.
 pub fn keep_pairs(
     alloc: Global,
     parent: &Book,
@@ -35,9 +38,11 @@ pub fn keep_pairs(
     requires images { AreImages parent.now.rules child.now.rules images.now }
     requires classes { MergesClasses parent.now child.now }
     ensures ok { OnOk result (KeepsStrictPairs parent.now child.now) }
-    ensures keeps { OnOk result (OthersAreLowest parent.now child.now → (times : List ℕ → ℕ) → IsCounted parent.now child.now times → KeepsPreferencesOf parent.now child.now times) }
+    ensures keeps { OnOk result (OthersAreLowest parent.now child.now → (times : List ℕ → ℕ)
+        → IsCounted parent.now child.now times → KeepsPreferencesOf parent.now child.now times) }
     ensures err { IfErr result (LosesPair parent.now child.now) }
-    ensures shows { IfErr result (λ fault. (times : List ℕ → ℕ) → IsCounted parent.now child.now times → ShowsLoss parent.now child.now times fault) }
+    ensures shows { IfErr result (λ fault. (times : List ℕ → ℕ)
+        → IsCounted parent.now child.now times → ShowsLoss parent.now child.now times fault) }
 {
     let rules = parent.rules.as_slice();
     if let Some((upper, lower)) = first_lost(&parent.order(), &child.order(), images) {

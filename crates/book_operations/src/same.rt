@@ -1,6 +1,7 @@
 ghost use Rattle.std.specs.Prelude.{◌≡◌, ◌*◌, ◌==◌, ◌↔◌, IsTrue};
 ghost use Rattle.std.specs.Str.{bytes_eq};
-ghost use Rattle.book_operations.specs.Same.{same_tree, same_argument, same_arguments, is_times, are_times, same_rule, has_equal};
+ghost use Rattle.book_operations.specs.Same.{same_tree, same_argument, same_arguments, is_times};
+ghost use Rattle.book_operations.specs.Same.{are_times, same_rule, has_equal};
 
 use expressions::{Argument, Expr};
 use preorder::Name;

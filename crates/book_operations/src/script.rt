@@ -1,11 +1,15 @@
-ghost use Rattle.std.specs.Prelude.{◌≡◌, ℕ, ◌+◌, ◌<◌, ◌≤◌, Ok, length, IfOk, IfErr, IfSome, OnOk, map};
+ghost use Rattle.std.specs.Prelude.{◌≡◌, ℕ, ◌+◌, ◌<◌, ◌≤◌, Ok, length, IfOk, IfErr, IfSome, OnOk};
+ghost use Rattle.std.specs.Prelude.{map};
 ghost use Rattle.std.specs.Bool.{OnFalse};
 ghost use Rattle.reading.specs.Lines.{lines_of};
 ghost use Rattle.reading.specs.Reading.{Gives};
 ghost use Rattle.reading.specs.Words.{words};
 ghost use Rattle.rule_language.specs.Books.{IsBook, book_of};
 ghost use Rattle.rule_language.specs.Writing.{book_text};
-ghost use Rattle.book_operations.specs.Scripts.{is_memory, words_child, text_child, multiplier, Leaves, IsLineFault, Derives, IsFirstRefused, IsDerivedBy, IsScriptFault, CarriesThrough, KeepsThrough, KeepsOver};
+ghost use Rattle.book_operations.specs.Scripts.{is_memory, words_child, text_child, multiplier};
+ghost use Rattle.book_operations.specs.Scripts.{Leaves, IsLineFault, Derives, IsFirstRefused};
+ghost use Rattle.book_operations.specs.Scripts.{IsDerivedBy, IsScriptFault, CarriesThrough};
+ghost use Rattle.book_operations.specs.Scripts.{KeepsThrough, KeepsOver};
 ghost use Rattle.book_operations.specs.Measures.{IsMeasure, measured};
 ghost use Rattle.rule_language.specs.declared.part.Part.{Part};
 ghost use Rattle.book_operations.specs.declared.steps.Child.{Child};
@@ -18,7 +22,8 @@ use reading::words_of;
 use rule_language::{Book, copy_book, cut_line};
 use std::alloc::{AllocError, Global};
 
-// The child that a line makes of the book, by its text without a comment. None where it has no word.
+// The child that a line makes of the book, by its text without a comment. None where it has no
+// word.
 fn words_child(
     alloc: Global,
     number: usize,
@@ -26,7 +31,8 @@ fn words_child(
     book: &Book,
 ) -> Result<Option<Child>, DeriveFault>
     requires { IsBook book.now }
-    ensures exact { Gives is_memory (λ child. child) result (words_child number (words text.now) book.now) }
+    ensures exact { Gives is_memory (λ child. child) result
+        (words_child number (words text.now) book.now) }
 {
     match words_of(alloc, text) {
         Ok(words) if words.is_empty() => Ok(None),
@@ -44,7 +50,8 @@ fn text_child(
     book: &Book,
 ) -> Result<Option<Child>, DeriveFault>
     requires { IsBook book.now }
-    ensures exact { Gives is_memory (λ child. child) result (text_child number len text.now book.now) }
+    ensures exact { Gives is_memory (λ child. child) result
+        (text_child number len text.now book.now) }
     ensures sound { IfOk result (λ made. IfSome made (λ (child : Child). IsBook child.book)) }
 {
     if len > MAX_LINE {
@@ -63,9 +70,12 @@ fn apply_line(
 ) -> Result<(), DeriveFault>
     requires { IsBook book.old }
     ensures sound { OnOk result (IsBook book.new) }
-    ensures leaves { OnOk result (Leaves book.old (text_child number len text.now book.old) book.new) }
-    ensures keeps { OnOk result (KeepsOver book.old (multiplier (words text.now)) (text_child number len text.now book.old) book.new) }
-    ensures refuses { IfErr result (λ fault. OnFalse (is_memory fault) (IsLineFault book.old (text_child number len text.now book.old) fault)) }
+    ensures leaves { OnOk result (Leaves book.old
+        (text_child number len text.now book.old) book.new) }
+    ensures keeps { OnOk result (KeepsOver book.old (multiplier (words text.now))
+        (text_child number len text.now book.old) book.new) }
+    ensures refuses { IfErr result (λ fault. OnFalse (is_memory fault)
+        (IsLineFault book.old (text_child number len text.now book.old) fault)) }
 {
     let Some(child) = text_child(alloc, number, len, text, book)? else {
         return Ok(());
@@ -81,7 +91,8 @@ fn apply_lines(alloc: Global, parent: &Book, script: &[u8]) -> Result<Book, Deri
     ensures well_formed { IfOk result IsBook }
     ensures derives { IfOk result (Derives 1 (lines_of script.now) parent.now) }
     ensures keeps { IfOk result (KeepsThrough 1 (lines_of script.now) parent.now) }
-    ensures refuses { IfErr result (λ fault. OnFalse (is_memory fault) (IsFirstRefused 1 (lines_of script.now) parent.now fault)) }
+    ensures refuses { IfErr result (λ fault. OnFalse (is_memory fault)
+        (IsFirstRefused 1 (lines_of script.now) parent.now fault)) }
 {
     let mut book = copy_book(alloc, parent)?;
     let mut rest = script;
@@ -94,8 +105,9 @@ fn apply_lines(alloc: Global, parent: &Book, script: &[u8]) -> Result<Book, Deri
     Ok(book)
 }
 
-/// The book that a script derives from the parent: each line makes a child of the book before it, and the test of the line
-/// must accept it (`refine` is put to `test_refinement`, `merge` to `test_aggregation`, `augment` to `test_augmentation`).
+/// The book that a script derives from the parent: each line makes a child of the book before it,
+/// and the test of the line must accept it (`refine` is put to `test_refinement`, `merge` to
+/// `test_aggregation`, `augment` to `test_augmentation`).
 /// Lines, comments and blanks are as in a book.
 #[tactic(auto, using(rule_language::proofs::Utf8::utf8_tests))]
 pub fn apply_script(alloc: Global, parent: &Book, script: &[u8]) -> Result<Book, DeriveFault>
@@ -107,18 +119,22 @@ pub fn apply_script(alloc: Global, parent: &Book, script: &[u8]) -> Result<Book,
     // What is derived keeps the parent's preferences, through every line.
     ensures keeps { IfOk result (KeepsThrough 1 (lines_of script.now) parent.now) }
 
-    // It is so of whatever is measured of parts in proportion to their weights, as the vectors of trajectories are: what is
-    // measured of the derived book carries what is measured of the parent.
-    ensures measures { IfOk result (λ book. (amount : Part → ℕ) → IsMeasure amount → CarriesThrough 1 (lines_of script.now) parent.now (measured amount parent.now) (measured amount book)) }
+    // It is so of whatever is measured of parts in proportion to their weights, as the vectors of
+    // trajectories are: what is measured of the derived book carries what is measured of the
+    // parent.
+    ensures measures { IfOk result (λ book. (amount : Part → ℕ) → IsMeasure amount
+        → CarriesThrough 1 (lines_of script.now) parent.now (measured amount parent.now)
+        (measured amount book)) }
 
     ensures well_formed { IfOk result IsBook }
 
     // The text that it is written as is read as the same book.
     ensures read_again { IfOk result (λ book. book_of (book_text book) ≡ Ok book) }
 
-    // A script is refused for the first fault of its first faulty line. Where that is the test's, its two vectors show a
-    // preference of the book before the line that is lost.
-    ensures refuses { IfErr result (λ fault. OnFalse (is_memory fault) (IsScriptFault script.now parent.now fault)) }
+    // A script is refused for the first fault of its first faulty line. Where that is the test's,
+    // its two vectors show a preference of the book before the line that is lost.
+    ensures refuses { IfErr result (λ fault. OnFalse (is_memory fault)
+        (IsScriptFault script.now parent.now fault)) }
 {
     if std::str::from_utf8(script).is_err() {
         return Err(DeriveFault::Syntax(1));

@@ -1,7 +1,9 @@
 ghost use Rattle.std.specs.Prelude.{◌≡◌, ◌++◌, ℕ, OnOk, IfOk, map, false};
 ghost use Rattle.reading.specs.Reading.{Gives};
 ghost use Rattle.rule_language.specs.Books.{IsBook, part_of};
-ghost use Rattle.book_operations.specs.Scripts.{is_memory, in_script, refine_line, each_above, augmented, augment_line, refine_words, merge_words, augment_words, script_words};
+ghost use Rattle.book_operations.specs.Scripts.{is_memory, in_script, refine_line, each_above};
+ghost use Rattle.book_operations.specs.Scripts.{augmented, augment_line, refine_words, merge_words};
+ghost use Rattle.book_operations.specs.Scripts.{augment_words, script_words};
 ghost use Rattle.rule_language.specs.declared.part.Part.{Part};
 
 use crate::factors::is_weight;
@@ -9,14 +11,16 @@ use crate::fault::{DeriveFault, line_fault};
 use crate::images::place_of;
 use crate::kind::Accepted;
 use crate::merging::merged;
-use preorder::{List, Name, NoMemory};
-use rule_language::{Book, MAX_RULES, Part, Rule, copy_book, part_of};
+use preorder::{List, MAX_RULES, Name, NoMemory};
+use rule_language::{Book, Part, Rule, copy_book, part_of};
 use std::alloc::Global;
 
 /// What a line of a script makes of a book, and the test that it is put to.
 #[derive(Drop)]
 pub struct Child {
+    /// Which test.
     pub kind: Accepted,
+    /// The book that it makes.
     pub book: Book,
 }
 
@@ -30,7 +34,8 @@ fn refined(
     b: &[u8],
     book: &Book,
 ) -> Result<Book, DeriveFault>
-    ensures { Gives is_memory (λ child. child) result (refine_line number kind.now a.now b.now book.now) }
+    ensures { Gives is_memory (λ child. child) result
+        (refine_line number kind.now a.now b.now book.now) }
 {
     let mut child = copy_book(alloc, book)?;
     match child.add_pair(number, kind, a, b) {
@@ -47,7 +52,8 @@ fn new_part(
     weight: &[u8],
     expr: &[&[u8]],
 ) -> Result<Part, DeriveFault>
-    ensures { Gives is_memory (λ part. part) result (in_script (part_of number false name.now weight.now (map (λ w. w.now) expr.now))) }
+    ensures { Gives is_memory (λ part. part) result
+        (in_script (part_of number false name.now weight.now (map (λ w. w.now) expr.now))) }
 {
     match part_of(alloc, number, false, name, weight, expr) {
         Ok(part) => Ok(part),
@@ -92,7 +98,8 @@ fn augmented(
     expr: &[&[u8]],
     book: &Book,
 ) -> Result<Book, DeriveFault>
-    ensures { Gives is_memory (λ child. child) result (augment_line number name.now weight.now (map (λ w. w.now) expr.now) book.now) }
+    ensures { Gives is_memory (λ child. child) result
+        (augment_line number name.now weight.now (map (λ w. w.now) expr.now) book.now) }
 {
     let Some(new) = Name::new(name) else {
         return Err(DeriveFault::Syntax(number));
@@ -117,7 +124,8 @@ fn refinement(
     words: &[&[u8]],
     book: &Book,
 ) -> Result<Child, DeriveFault>
-    ensures { Gives is_memory (λ child. child) result (refine_words number (map (λ w. w.now) words.now) book.now) }
+    ensures { Gives is_memory (λ child. child) result
+        (refine_words number (map (λ w. w.now) words.now) book.now) }
 {
     match words {
         [kind, a, b] => Ok(Child {
@@ -136,7 +144,8 @@ fn aggregation(
     book: &Book,
 ) -> Result<Child, DeriveFault>
     requires { IsBook book.now }
-    ensures { Gives is_memory (λ child. child) result (merge_words number (map (λ w. w.now) words.now) book.now) }
+    ensures { Gives is_memory (λ child. child) result
+        (merge_words number (map (λ w. w.now) words.now) book.now) }
 {
     match words {
         [name, words @ ..] => Ok(Child {
@@ -154,7 +163,8 @@ fn augmentation(
     words: &[&[u8]],
     book: &Book,
 ) -> Result<Child, DeriveFault>
-    ensures { Gives is_memory (λ child. child) result (augment_words number (map (λ w. w.now) words.now) book.now) }
+    ensures { Gives is_memory (λ child. child) result
+        (augment_words number (map (λ w. w.now) words.now) book.now) }
 {
     match words {
         [name, weight, expr @ ..] => Ok(Child {
@@ -174,7 +184,8 @@ pub fn child_of(
     book: &Book,
 ) -> Result<Child, DeriveFault>
     requires { IsBook book.now }
-    ensures { Gives is_memory (λ child. child) result (script_words number (map (λ w. w.now) words.now) book.now) }
+    ensures { Gives is_memory (λ child. child) result
+        (script_words number (map (λ w. w.now) words.now) book.now) }
 {
     match words {
         [] => Err(DeriveFault::Syntax(number)),

@@ -12,7 +12,8 @@ fn quotient(a: u64, b: u64) -> u64
     a.checked_div(b).unwrap_or(0)
 }
 
-// The parts after those that are the summand's, in order, with the weights times a number of at least 1.
+// The parts after those that are the summand's, in order, with the weights times a number of at
+// least 1.
 fn after_summand<'a>(summand: &[Part], parts: &'a [Part]) -> Option<&'a [Part]>
     ensures { option_map (λ x. x.now) result ≡ after_summand summand.now parts.now }
 {
@@ -28,8 +29,8 @@ fn after_summand<'a>(summand: &[Part], parts: &'a [Part]) -> Option<&'a [Part]>
     }
 }
 
-/// Whether the parts are a sum of the rules whose names the others lack: in order the parts of each, of which there is at
-/// least one, with their weights times one number of at least 1.
+/// Whether the parts are a sum of the rules whose names the others lack: in order the parts of
+/// each, of which there is at least one, with their weights times one number of at least 1.
 pub fn sums_up(others: &[Rule], rules: &[Rule], parts: &[Part]) -> bool
     ensures { result ≡ sums_up others.now rules.now parts.now }
 {

@@ -1,15 +1,14 @@
 -- Where two relations agree, the conditions of a certificate say the same by both.
-use Rattle.std.proofs.Common.{◌≡◌, ℕ, ◌<◌, ◌≤◌, ◌↔◌, List, length}
-use Rattle.std.specs.Prelude.{Some, slice_get, Result, Ok, Err, OnOk, IfErr}
+use Rattle.std.proofs.Common.{ℕ, ◌↔◌, List}
+use Rattle.std.specs.Prelude.{Result, Ok, Err, OnOk, IfErr}
 use Rattle.preorder.specs.declared.order.Preorder.{Preorder}
 use Rattle.rulebook_order.specs.Certified.{HasGoalLink}
 use Rattle.rulebook_order.specs.Graph.{Graph}
 use Rattle.rulebook_order.specs.NoWorseBy.{NoWorseBy, no_worse_by}
 use Rattle.rulebook_order.specs.VectorOrder.{Holds}
 use Rattle.rulebook_order.specs.laws.PairLaws.{no_worse_by-words}
-use Rattle.certificate_text.specs.declared.certificate.CertLabel.{CertLabel}
 use Rattle.certificate_text.specs.declared.certificate.Certificate.{Certificate}
-use Rattle.certificate_checker.specs.GoodCertificate.{pairs_of, HasLinks, StandsApart, Everywhere, IsGood}
+use Rattle.certificate_checker.specs.GoodCertificate.{pairs_of, HasLinks, StandsApart, IsGood}
 use Rattle.certificate_checker.specs.Failing.{FailsFirst, AreLinked, AreAnswered, Fails, no_label, late_parent, no_choice, no_link, stray_final, no_goal_link, crowded_final, surplus_links, surplus_goal_links, RejectedBy}
 use Rattle.certificate_checker.specs.declared.checked.Checked.{Checked}
 use Rattle.certificate_checker.specs.declared.checked.Rejection.{Rejection}

@@ -1,10 +1,9 @@
 -- What the conditions say of the labels' pairs and their ends.
-use Rattle.std.proofs.Common.{◌≡◌, ℕ, ◌<◌, ◌≤◌, Bool, List, length, get_or, refl, ap, sym, subst, ◌∙◌, arith}
-use Rattle.std.specs.Prelude.{All, Contains, Some, slice_get, map}
+use Rattle.std.proofs.Common.{◌≡◌, ℕ, ◌<◌, List, length, get_or}
+use Rattle.std.specs.Prelude.{All, Contains}
 use Rattle.std.proofs.lemmas.Option.{slice_get-get_or, slice_get_within}
 use Rattle.std.proofs.lemmas.List.Elements.{All-map, All-weaker, All-contains_itself}
-use Rattle.rulebook_order.specs.Certified.{IsGoalLabel}
-use Rattle.rulebook_order.specs.Graph.{Graph, IsReached, finished}
+use Rattle.rulebook_order.specs.Graph.{Graph, finished}
 use Rattle.rulebook_order.specs.StepGraph.{IsStepGraph}
 use Rattle.rulebook_order.proofs.Lists.{Contains-slice_get}
 use Rattle.rulebook_order.proofs.Reached.{IsReached-built, width_finished}
@@ -12,7 +11,6 @@ use Rattle.certificate_text.specs.declared.certificate.CertLabel.{CertLabel}
 use Rattle.certificate_checker.specs.GoodCertificate.{pairs_of, FinalIsAtGoal, Everywhere}
 use Rattle.certificate_checker.specs.Failing.{AreLinked}
 use Rattle.certificate_checker.specs.Labels.{AreReached, ends_of}
-use Rattle.certificate_checker.proofs.Ends.{length-ends}
 use Rattle.certificate_checker.proofs.Pairs.{pair_built}
 
 pub reached_of : {S : Type 0} (g : Graph S) (IsNoWorse : List ℕ → List ℕ → Type 0) (labels : List CertLabel) → AreLinked g IsNoWorse labels → AreReached g (pairs_of g labels)

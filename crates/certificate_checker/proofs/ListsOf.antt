@@ -1,13 +1,13 @@
 -- Answers with their lists of choices, one more.
-use Rattle.std.proofs.Common.{◌≡◌, ℕ, ◌+◌, ◌<◌, ◌≤◌, List, [], ◌∷◌, ◌++◌, length, get_or, refl, ap, sym, subst, ◌∙◌, arith, inl, inr, length-append}
-use Rattle.std.specs.Prelude.{Some, slice_get, slice_index_or, map}
-use Rattle.std.proofs.lemmas.Option.{same_Some, slice_get_within}
+use Rattle.std.proofs.Common.{◌≡◌, ℕ, List, [], ◌∷◌, ◌++◌, length, refl, ap, sym, subst, ◌∙◌, arith, inl, inr}
+use Rattle.std.specs.Prelude.{slice_index_or, map}
+use Rattle.std.proofs.lemmas.Option.{slice_get_within}
 use Rattle.std.proofs.lemmas.List.{length-map, map-append}
 use Rattle.rulebook_order.proofs.Lists.{slice_get-push-cases}
 use Rattle.certificate_text.specs.declared.certificate.CertLabel.{CertLabel}
 use Rattle.certificate_checker.specs.GoodCertificate.{LeadsToLabel}
 use Rattle.certificate_checker.specs.declared.checked.Attained.{Attained}
-use Rattle.certificate_checker.specs.Answers.{vectors_of, AreListsOf}
+use Rattle.certificate_checker.specs.Answers.{AreListsOf}
 
 pub AreListsOf-none : (labels : List CertLabel) (ends : List (List ℕ)) → AreListsOf labels ends [] []
 AreListsOf-none labels ends = record { vectors = refl; choices = λ j final answer at. absurd (let h = slice_get_within [] j final at in omega arith) }

@@ -1,5 +1,5 @@
 -- A certificate is good or fails at one condition and label, and its answers and their lists are its own.
-use Rattle.std.proofs.Common.{◌≡◌, ℕ, ◌+◌, ◌<◌, ◌≤◌, List, [], ◌∷◌, ◌++◌, length, refl, ap, sym, ◌∙◌, subst, inl, inr, arith, ◌⊎◌, suc, zero}
+use Rattle.std.proofs.Common.{◌≡◌, ℕ, ◌≤◌, List, [], ◌∷◌, ◌++◌, length, refl, ap, sym, ◌∙◌, subst, inl, inr, arith, ◌⊎◌, suc}
 use Rattle.std.specs.Prelude.{Some, slice_get, map, drop}
 use Rattle.std.proofs.lemmas.Bool.{cases_order}
 use Rattle.std.proofs.lemmas.Option.{same_Some}
@@ -181,7 +181,7 @@ LeadsToLabel-once labels k xs ys (then n label cs up at lead) (then m other ds u
     let there = subst (λ (x : CertLabel). LeadsToLabel labels x.parent ds) (sym same) lead' in
     ap (λ zs. zs ++ label.choice ∷ []) (LeadsToLabel-once labels label.parent cs ds lead there) ∙ ap (λ (x : CertLabel). ds ++ x.choice ∷ []) same
 
-abbrev with_parts : List ℕ → List ℕ → Attained
+abbrev pub with_parts : List ℕ → List ℕ → Attained
 with_parts v cs = record { vector = v; choices = cs }
 
 -- the answers with their lists are given by the finals

@@ -1,14 +1,12 @@
 -- The pairs of a certificate's labels.
-use Rattle.std.proofs.Common.{◌≡◌, Bool, ℕ, zero, suc, ◌+◌, ◌<◌, ◌≤◌, List, [], ◌∷◌, ◌++◌, length, refl, ap, sym, subst, ◌∙◌, arith, add-zero, take, drop, inl, inr, length-take}
-use Rattle.std.specs.Prelude.{slice_get, Some, None, get_or}
-use Rattle.std.proofs.lemmas.Option.{slice_get-get_or, get_or_from_slice_get, same_Some, slice_get_within, slice_get_read}
-use Rattle.std.proofs.lemmas.Grind.{common_steps}
+use Rattle.std.proofs.Common.{◌≡◌, ℕ, zero, suc, ◌+◌, ◌<◌, ◌≤◌, List, [], ◌∷◌, ◌++◌, length, refl, ap, sym, subst, ◌∙◌, arith, add-zero, take, drop, inl, inr, length-take}
+use Rattle.std.specs.Prelude.{slice_get, Some, get_or}
+use Rattle.std.proofs.lemmas.Option.{get_or_from_slice_get, same_Some, slice_get_within, slice_get_read}
 use Rattle.std.proofs.Math.ListN.{length-append}
 use Rattle.std.proofs.lemmas.List.{take-append-drop, take_more}
-use Rattle.rulebook_order.specs.Sums.{sums}
 use Rattle.rulebook_order.specs.Graph.{Graph, pair_by, IsReached}
 use Rattle.rulebook_order.specs.Certified.{IsLinked}
-use Rattle.rulebook_order.proofs.Lists.{slice_get-append, slice_get-snoc, slice_get_some, slice_get-push-cases, width-sums}
+use Rattle.rulebook_order.proofs.Lists.{slice_get-append, slice_get-snoc, slice_get_some, slice_get-push-cases}
 use Rattle.rulebook_order.proofs.Reached.{Built, start, extend}
 use Rattle.certificate_text.specs.declared.certificate.CertLabel.{CertLabel}
 use Rattle.certificate_checker.specs.GoodCertificate.{pair_of, pairs_after, pairs_of, ParentIsEarlier, HasChoice, Everywhere, HasLinks}

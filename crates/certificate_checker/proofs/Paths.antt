@@ -1,12 +1,11 @@
 -- The choices that the parents give reach their label, and so attain a final's vector.
-use Rattle.std.proofs.Common.{◌≡◌, ℕ, ◌+◌, ◌<◌, List, [], ◌∷◌, ◌++◌, length, get_or, refl, ap, sym, subst, ◌∙◌, arith}
-use Rattle.std.specs.Prelude.{All, Contains, Some, slice_get, slice_index_or, map, option_map, IsTrue}
-use Rattle.std.proofs.lemmas.Option.{same_Some, slice_get_within, slice_get-map, get_or_from_slice_get, slice_get-get_or}
-use Rattle.std.proofs.lemmas.List.{length-map, get_or-map}
+use Rattle.std.proofs.Common.{◌≡◌, ℕ, ◌<◌, List, [], ◌∷◌, ◌++◌, length, refl, ap, sym, subst, ◌∙◌, arith}
+use Rattle.std.specs.Prelude.{All, Contains, Some, slice_get, slice_index_or, map, option_map}
+use Rattle.std.proofs.lemmas.Option.{same_Some, slice_get_within, slice_get-map, get_or_from_slice_get}
+use Rattle.std.proofs.lemmas.List.{length-map}
 use Rattle.std.proofs.lemmas.List.Elements.{All-head, All-tail, All-weaker, All-contains_itself}
 use Rattle.rulebook_order.specs.Certified.{finished_at, finished_vectors}
 use Rattle.rulebook_order.specs.Graph.{Graph, Reaches, Attains, finished}
-use Rattle.rulebook_order.specs.StepGraph.{IsStepGraph}
 use Rattle.rulebook_order.proofs.Lists.{slice_get_some, Contains-slice_get}
 use Rattle.rulebook_order.proofs.Reached.{LeadsTo-snoc}
 use Rattle.certificate_text.specs.declared.certificate.CertLabel.{CertLabel}

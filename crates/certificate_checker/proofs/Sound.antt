@@ -1,10 +1,10 @@
 -- The finished vectors of a good certificate's finals are the answer.
-use Rattle.std.proofs.Common.{◌≡◌, ℕ, ◌+◌, ◌<◌, ◌≤◌, Bool, List, [], ◌∷◌, ◌++◌, length, get_or, refl, ap, sym, subst, ◌∙◌, arith}
-use Rattle.std.specs.Prelude.{All, AllPairs, Contains, slice_get, Some, map, IsTrue}
+use Rattle.std.proofs.Common.{◌≡◌, ℕ, ◌<◌, Bool, List, length, get_or, ap, sym, subst, arith}
+use Rattle.std.specs.Prelude.{All, AllPairs, Contains, slice_get, Some, IsTrue}
 use Rattle.std.proofs.lemmas.Option.{slice_get-get_or, get_or_from_slice_get, slice_get_within}
-use Rattle.std.proofs.lemmas.List.Elements.{All-map, All-weaker, All-contains, All-contains_itself}
+use Rattle.std.proofs.lemmas.List.Elements.{All-map, All-weaker, All-contains_itself}
 use Rattle.rulebook_order.specs.Answer.{IsAnswerList}
-use Rattle.rulebook_order.specs.Certified.{finished_at, finished_vectors}
+use Rattle.rulebook_order.specs.Certified.{finished_at}
 use Rattle.rulebook_order.specs.Graph.{Graph, IsReached, IsAttained, finished}
 use Rattle.rulebook_order.specs.StepGraph.{IsStepGraph}
 use Rattle.rulebook_order.specs.Sums.{sums}

@@ -1,7 +1,8 @@
 //! The answers that an accepted certificate shows.
 
 ghost use Rattle.std.specs.Prelude.{◌≡◌, ◌<◌, length, All, reverse, IfOk};
-ghost use Rattle.certificate_checker.specs.GoodCertificate.{ParentIsEarlier, Everywhere, LeadsToLabel};
+ghost use Rattle.certificate_checker.specs.GoodCertificate.{ParentIsEarlier, Everywhere};
+ghost use Rattle.certificate_checker.specs.GoodCertificate.{LeadsToLabel};
 ghost use Rattle.certificate_checker.specs.Answers.{AreListsOf};
 
 use crate::checked::Attained;
@@ -9,7 +10,7 @@ use certificate_text::CertLabel;
 use preorder::{List, NoMemory, Violation};
 use std::alloc::Global;
 
-/// The choices from the start to a label, the last one first.
+// The choices from the start to a label, the last one first.
 fn choices_back(alloc: Global, labels: &[CertLabel], number: u32) -> Result<Vec<u32>, NoMemory>
     requires number { number < length labels.now }
     requires parents { Everywhere (length labels.now) (ParentIsEarlier labels.now) }
@@ -25,7 +26,7 @@ fn choices_back(alloc: Global, labels: &[CertLabel], number: u32) -> Result<Vec<
     Ok(back)
 }
 
-/// The items from the last to the first.
+// The items from the last to the first.
 fn reversed(alloc: Global, items: &[u32]) -> Result<List<u32>, NoMemory>
     ensures { IfOk result (λ list. list ≡ reverse items.now) }
 {

@@ -21,7 +21,7 @@ use rulebook_order::{PairOrder, StepGraph, Steps, VectorOrder};
 use std::alloc::Global;
 use std::sync::ledger::Ledger;
 
-/// Conditions 5 to 7, where 1 to 4 hold.
+// Conditions 5 to 7, where 1 to 4 hold.
 fn check_finals<G: StepGraph, O: VectorOrder>(
     alloc: Global,
     graph: &G,
@@ -35,8 +35,10 @@ fn check_finals<G: StepGraph, O: VectorOrder>(
     requires linked { AreLinked (G.graph graph.now) (Holds (O.no_worse order.now)) cert.now.labels }
     requires pairs { pairs.now ≡ pairs_of (G.graph graph.now) cert.now.labels }
     requires ends { ends.now ≡ ends_of (G.graph graph.now) pairs.now }
-    ensures answered { OnOk result (AreAnswered (G.graph graph.now) (Holds (O.no_worse order.now)) cert.now) }
-    ensures rejected { IfErr result (RejectedBy (Fails (G.graph graph.now) (Holds (O.no_worse order.now)) cert.now)) }
+    ensures answered { OnOk result (AreAnswered (G.graph graph.now)
+        (Holds (O.no_worse order.now)) cert.now) }
+    ensures rejected { IfErr result (RejectedBy (Fails (G.graph graph.now)
+        (Holds (O.no_worse order.now)) cert.now)) }
 {
     let finals = cert.finals.as_slice();
     let goal_links = cert.goal_links.as_slice();
@@ -61,7 +63,7 @@ fn check_finals<G: StepGraph, O: VectorOrder>(
     Ok(())
 }
 
-/// Condition 8, where 1 to 7 hold: the certificate is good.
+// Condition 8, where 1 to 7 hold: the certificate is good.
 fn check_surplus<G: StepGraph, O: VectorOrder>(
     graph: &G,
     order: &O,
@@ -72,8 +74,10 @@ fn check_surplus<G: StepGraph, O: VectorOrder>(
     requires linked { AreLinked (G.graph graph.now) (Holds (O.no_worse order.now)) cert.now.labels }
     requires answered { AreAnswered (G.graph graph.now) (Holds (O.no_worse order.now)) cert.now }
     requires pairs { pairs.now ≡ pairs_of (G.graph graph.now) cert.now.labels }
-    ensures good { OnOk result (IsGood (G.graph graph.now) (Holds (O.no_worse order.now)) cert.now) }
-    ensures rejected { IfErr result (RejectedBy (Fails (G.graph graph.now) (Holds (O.no_worse order.now)) cert.now)) }
+    ensures good { OnOk result (IsGood (G.graph graph.now)
+        (Holds (O.no_worse order.now)) cert.now) }
+    ensures rejected { IfErr result (RejectedBy (Fails (G.graph graph.now)
+        (Holds (O.no_worse order.now)) cert.now)) }
 {
     let _ = order;
     let labels = cert.labels.as_slice();
@@ -86,7 +90,7 @@ fn check_surplus<G: StepGraph, O: VectorOrder>(
     Ok(())
 }
 
-/// The answers where conditions 5 to 8 hold too, or the first that fails.
+// The answers where conditions 5 to 8 hold too, or the first that fails.
 fn check_rest<G: StepGraph, O: VectorOrder>(
     alloc: Global,
     graph: &G,
@@ -98,10 +102,14 @@ fn check_rest<G: StepGraph, O: VectorOrder>(
     requires count { length cert.now.labels < 2 ^ 32 }
     requires linked { AreLinked (G.graph graph.now) (Holds (O.no_worse order.now)) cert.now.labels }
     requires pairs { pairs.now ≡ pairs_of (G.graph graph.now) cert.now.labels }
-    ensures good { OnOk result (IsGood (G.graph graph.now) (Holds (O.no_worse order.now)) cert.now) }
-    ensures vectors { IfOk result (λ checked. vectors_of checked.answers ≡ answers_of (G.graph graph.now) cert.now) }
-    ensures choices { IfOk result (λ checked. FollowParents cert.now.labels cert.now.finals checked.answers) }
-    ensures rejected { IfErr result (RejectedBy (Fails (G.graph graph.now) (Holds (O.no_worse order.now)) cert.now)) }
+    ensures good { OnOk result (IsGood (G.graph graph.now)
+        (Holds (O.no_worse order.now)) cert.now) }
+    ensures vectors { IfOk result (λ checked. vectors_of checked.answers
+        ≡ answers_of (G.graph graph.now) cert.now) }
+    ensures choices { IfOk result
+        (λ checked. FollowParents cert.now.labels cert.now.finals checked.answers) }
+    ensures rejected { IfErr result (RejectedBy (Fails (G.graph graph.now)
+        (Holds (O.no_worse order.now)) cert.now)) }
 {
     let ends = ends(alloc, graph, pairs)?;
     check_finals(alloc, graph, order, cert, pairs, ends.as_slice())?;
@@ -115,7 +123,7 @@ fn check_rest<G: StepGraph, O: VectorOrder>(
     Ok(Checked { answers })
 }
 
-/// The whole check, by the test of the pre-order.
+// The whole check, by the test of the pre-order.
 fn check_by_test<G: StepGraph, L: Ledger>(
     alloc: Global,
     graph: &G,
@@ -125,12 +133,17 @@ fn check_by_test<G: StepGraph, L: Ledger>(
 ) -> Result<Checked, Rejection>
     requires order { (G.graph graph.now).width ≡ rules_of (order_of pairs.now) }
     requires count { length cert.now.labels < 2 ^ 32 }
-    ensures good { OnOk result (IsGood (G.graph graph.now) (Holds (no_worse_by (order_of pairs.now))) cert.now) }
-    ensures vectors { IfOk result (λ checked. vectors_of checked.answers ≡ answers_of (G.graph graph.now) cert.now) }
-    ensures choices { IfOk result (λ checked. FollowParents cert.now.labels cert.now.finals checked.answers) }
+    ensures good { OnOk result (IsGood (G.graph graph.now)
+        (Holds (no_worse_by (order_of pairs.now))) cert.now) }
+    ensures vectors { IfOk result (λ checked. vectors_of checked.answers
+        ≡ answers_of (G.graph graph.now) cert.now) }
+    ensures choices { IfOk result
+        (λ checked. FollowParents cert.now.labels cert.now.finals checked.answers) }
     ensures attained { IfOk result (λ checked. AreAttained (G.graph graph.now) checked.answers) }
-    ensures answer { IfOk result (λ checked. IsAnswerList (G.graph graph.now) (NoWorseBy (order_of pairs.now)) (vectors_of checked.answers)) }
-    ensures rejected { IfErr result (RejectedBy (Fails (G.graph graph.now) (Holds (no_worse_by (order_of pairs.now))) cert.now)) }
+    ensures answer { IfOk result (λ checked. IsAnswerList (G.graph graph.now)
+        (NoWorseBy (order_of pairs.now)) (vectors_of checked.answers)) }
+    ensures rejected { IfErr result (RejectedBy (Fails (G.graph graph.now)
+        (Holds (no_worse_by (order_of pairs.now))) cert.now)) }
     ensures steps { steps.new ≤ steps.old + length cert.now.labels + links_of cert.now.labels }
 {
     let labels = check_labels(alloc, graph, pairs, cert, steps)?;
@@ -138,13 +151,15 @@ fn check_by_test<G: StepGraph, L: Ledger>(
     Ok(checked)
 }
 
-/// Checks a certificate. It is accepted exactly where the eight conditions hold; its answers are then exactly the answer
-/// over the graph, each once, each with a list of choices that attains it, in the order of the certificate's finals.
-/// Otherwise the first condition that fails is named, with the first label at which it does. The certificate may come from
-/// anyone.
+/// Checks a certificate. It is accepted exactly where the eight conditions hold; its answers are
+/// then exactly the answer over the graph, each once, each with a list of choices that attains it,
+/// in the order of the certificate's finals.
+/// Otherwise the first condition that fails is named, with the first label at which it does. The
+/// certificate may come from anyone.
 ///
-/// The graph has as many numbers in a vector as the order has rules, and there are fewer than 2^32 labels. One step is
-/// counted for each extension that is made, at most one for each label and each link. It takes memory.
+/// The graph has as many numbers in a vector as the order has rules, and there are fewer than 2^32
+/// labels. One step is counted for each extension that is made, at most one for each label and each
+/// link. It takes memory.
 pub fn check<G: StepGraph, L: Ledger>(
     alloc: Global,
     graph: &G,
@@ -154,12 +169,17 @@ pub fn check<G: StepGraph, L: Ledger>(
 ) -> Result<Checked, Rejection>
     requires order { (G.graph graph.now).width ≡ rules_of (order_of pairs.now) }
     requires count { length cert.now.labels < 2 ^ 32 }
-    ensures good { OnOk result (IsGood (G.graph graph.now) (NoWorseBy (order_of pairs.now)) cert.now) }
-    ensures vectors { IfOk result (λ checked. vectors_of checked.answers ≡ answers_of (G.graph graph.now) cert.now) }
-    ensures choices { IfOk result (λ checked. FollowParents cert.now.labels cert.now.finals checked.answers) }
+    ensures good { OnOk result (IsGood (G.graph graph.now)
+        (NoWorseBy (order_of pairs.now)) cert.now) }
+    ensures vectors { IfOk result (λ checked. vectors_of checked.answers
+        ≡ answers_of (G.graph graph.now) cert.now) }
+    ensures choices { IfOk result
+        (λ checked. FollowParents cert.now.labels cert.now.finals checked.answers) }
     ensures attained { IfOk result (λ checked. AreAttained (G.graph graph.now) checked.answers) }
-    ensures answer { IfOk result (λ checked. IsAnswerList (G.graph graph.now) (NoWorseBy (order_of pairs.now)) (vectors_of checked.answers)) }
-    ensures rejected { IfErr result (RejectedBy (Fails (G.graph graph.now) (NoWorseBy (order_of pairs.now)) cert.now)) }
+    ensures answer { IfOk result (λ checked. IsAnswerList (G.graph graph.now)
+        (NoWorseBy (order_of pairs.now)) (vectors_of checked.answers)) }
+    ensures rejected { IfErr result (RejectedBy (Fails (G.graph graph.now)
+        (NoWorseBy (order_of pairs.now)) cert.now)) }
     ensures steps { steps.new ≤ steps.old + length cert.now.labels + links_of cert.now.labels }
 {
     check_by_test(alloc, graph, pairs, cert, steps)

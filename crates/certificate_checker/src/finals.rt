@@ -1,10 +1,13 @@
 //! Conditions 5 to 8: the finals, the goal links, and that nothing is there too much.
 
-ghost use Rattle.std.specs.Prelude.{◌≡◌, ◌↔◌, ◌^◌, ◌<◌, ◌≤◌, ℕ, List, length, Some, true, All, Contains, IfOk, IsTrue, slice_get};
-ghost use Rattle.rulebook_order.specs.Certified.{IsGoalLabel, IsAnsweredAt, HasGoalLink, goals_in, finished_at};
+ghost use Rattle.std.specs.Prelude.{◌≡◌, ◌↔◌, ◌^◌, ◌<◌, ◌≤◌, ℕ, List, length, Some, true, All};
+ghost use Rattle.std.specs.Prelude.{Contains, IfOk, IsTrue, slice_get};
+ghost use Rattle.rulebook_order.specs.Certified.{IsGoalLabel, IsAnsweredAt, HasGoalLink, goals_in};
+ghost use Rattle.rulebook_order.specs.Certified.{finished_at};
 ghost use Rattle.rulebook_order.specs.NoWorse.{AreApart};
 ghost use Rattle.rulebook_order.specs.VectorOrder.{Holds};
-ghost use Rattle.certificate_checker.specs.GoodCertificate.{FinalIsAtGoal, StandsApart, HasNoSurplus};
+ghost use Rattle.certificate_checker.specs.GoodCertificate.{FinalIsAtGoal, StandsApart};
+ghost use Rattle.certificate_checker.specs.GoodCertificate.{HasNoSurplus};
 ghost use Rattle.certificate_checker.specs.Failing.{FirstFailing};
 ghost use Rattle.certificate_checker.specs.Labels.{AreReached, ends_of, AreMarks};
 
@@ -13,7 +16,7 @@ use preorder::{NoMemory, Violation};
 use rulebook_order::{StepGraph, VectorOrder, finished};
 use std::alloc::Global;
 
-/// Whether a number is that of a label at a goal.
+// Whether a number is that of a label at a goal.
 fn is_goal_label<G: StepGraph>(graph: &G, pairs: &[(G::State, Violation)], number: u32) -> bool
     requires reached { AreReached (G.graph graph.now) pairs.now }
     ensures { IsTrue result ↔ IsGoalLabel (G.graph graph.now) pairs.now number }
@@ -31,7 +34,8 @@ pub fn stray_final<G: StepGraph>(
     finals: &[u32],
 ) -> Option<usize>
     requires reached { AreReached (G.graph graph.now) pairs.now }
-    ensures { FirstFailing (length finals.now) (FinalIsAtGoal (G.graph graph.now) pairs.now finals.now) result }
+    ensures { FirstFailing (length finals.now) (FinalIsAtGoal
+        (G.graph graph.now) pairs.now finals.now) result }
 {
     for (j, number) in finals.iter().enumerate() {
         if !is_goal_label(graph, pairs, *number) {
@@ -70,7 +74,7 @@ pub fn marks(alloc: Global, count: usize, finals: &[u32]) -> Result<Vec<bool>, N
     Ok(marks)
 }
 
-/// Whether a number is that of a final whose finished vector is no worse.
+// Whether a number is that of a final whose finished vector is no worse.
 fn is_final_no_worse<O: VectorOrder>(
     order: &O,
     ends: &[Violation],
@@ -80,7 +84,8 @@ fn is_final_no_worse<O: VectorOrder>(
 ) -> bool
     requires widths { All (λ end. length end ≡ O.rules order.now) ends.now }
     requires vector { length vector.now ≡ O.rules order.now }
-    ensures { IsTrue result ↔ ((slice_get marks.now number ≡ Some true) × (end : List ℕ) × (slice_get ends.now number ≡ Some end) × Holds (O.no_worse order.now) end vector.now) }
+    ensures { IsTrue result ↔ ((slice_get marks.now number ≡ Some true) × (end : List ℕ)
+        × (slice_get ends.now number ≡ Some end) × Holds (O.no_worse order.now) end vector.now) }
 {
     match (marks.get(number as usize), ends.get(number as usize)) {
         (Some(true), Some(end)) => order.no_worse(end.as_slice(), vector),
@@ -88,7 +93,7 @@ fn is_final_no_worse<O: VectorOrder>(
     }
 }
 
-/// Whether neither of two vectors is no worse than the other.
+// Whether neither of two vectors is no worse than the other.
 fn are_apart<O: VectorOrder>(order: &O, x: &[u64], y: &[u64]) -> bool
     requires x { length x.now ≡ O.rules order.now }
     requires y { length y.now ≡ O.rules order.now }
@@ -108,7 +113,8 @@ pub fn crowded_final<G: StepGraph, O: VectorOrder>(
     requires ends { ends.now ≡ ends_of (G.graph graph.now) pairs.now }
     requires widths { All (λ end. length end ≡ O.rules order.now) ends.now }
     requires labels { All (λ f. f < length ends.now) finals.now }
-    ensures { FirstFailing (length finals.now) (StandsApart (G.graph graph.now) (Holds (O.no_worse order.now)) pairs.now finals.now) result }
+    ensures { FirstFailing (length finals.now) (StandsApart (G.graph graph.now)
+        (Holds (O.no_worse order.now)) pairs.now finals.now) result }
 {
     let _ = graph;
     let _ = pairs;
@@ -133,7 +139,8 @@ pub fn surplus_label<G: StepGraph>(
     requires count { length labels.now < 2 ^ 32 }
     requires length { length pairs.now ≡ length labels.now }
     requires reached { AreReached (G.graph graph.now) pairs.now }
-    ensures { FirstFailing (length labels.now) (HasNoSurplus (G.graph graph.now) pairs.now labels.now) result }
+    ensures { FirstFailing (length labels.now) (HasNoSurplus
+        (G.graph graph.now) pairs.now labels.now) result }
 {
     for (k, label) in labels.iter().enumerate() {
         let (state, _) = &pairs[k];
@@ -159,7 +166,7 @@ pub fn goals<G: StepGraph>(graph: &G, pairs: &[(G::State, Violation)]) -> usize
     count
 }
 
-/// Whether a goal link is there, and names a final whose finished vector is no worse.
+// Whether a goal link is there, and names a final whose finished vector is no worse.
 fn is_answered<G: StepGraph, O: VectorOrder>(
     graph: &G,
     order: &O,
@@ -177,7 +184,8 @@ fn is_answered<G: StepGraph, O: VectorOrder>(
     requires marks { AreMarks finals.now marks.now }
     requires length { length marks.now ≡ length ends.now }
     requires vector { length vector.now ≡ O.rules order.now }
-    ensures { IsTrue result ↔ IsAnsweredAt (G.graph graph.now) (Holds (O.no_worse order.now)) pairs.now finals.now goal_links.now j vector.now }
+    ensures { IsTrue result ↔ IsAnsweredAt (G.graph graph.now)
+        (Holds (O.no_worse order.now)) pairs.now finals.now goal_links.now j vector.now }
 {
     let _ = graph;
     let _ = pairs;
@@ -205,7 +213,8 @@ pub fn unanswered_goal<G: StepGraph, O: VectorOrder>(
     requires labels { All (λ f. f < length ends.now) finals.now }
     requires marks { AreMarks finals.now marks.now }
     requires length { length marks.now ≡ length ends.now }
-    ensures { FirstFailing (length pairs.now) (HasGoalLink (G.graph graph.now) (Holds (O.no_worse order.now)) pairs.now finals.now goal_links.now) result }
+    ensures { FirstFailing (length pairs.now) (HasGoalLink (G.graph graph.now)
+        (Holds (O.no_worse order.now)) pairs.now finals.now goal_links.now) result }
 {
     let mut j = 0;
     for k in 0..pairs.len() {

@@ -1,11 +1,14 @@
 //! Conditions 1 to 4: the labels, their parents and their links.
 
-ghost use Rattle.std.specs.Prelude.{◌≡◌, ◌↔◌, ◌+◌, ◌^◌, ◌<◌, ◌≤◌, ℕ, List, length, Some, IfOk, IfErr, OnOk, IsTrue, MatchResult, slice_get};
+ghost use Rattle.std.specs.Prelude.{◌≡◌, ◌↔◌, ◌+◌, ◌^◌, ◌<◌, ◌≤◌, ℕ, List, length, Some, IfOk};
+ghost use Rattle.std.specs.Prelude.{IfErr, OnOk, IsTrue, MatchResult, slice_get};
 ghost use Rattle.rulebook_order.specs.Certified.{IsLinked, IsLinkedTo};
 ghost use Rattle.rulebook_order.specs.Graph.{IsReached};
 ghost use Rattle.rulebook_order.specs.VectorOrder.{Holds};
-ghost use Rattle.certificate_checker.specs.GoodCertificate.{pairs_of, ParentIsEarlier, HasChoice, HasLinks, Everywhere, links_of};
-ghost use Rattle.certificate_checker.specs.Failing.{FailsFirst, FirstFailing, AreLinked, Fails, RejectedBy};
+ghost use Rattle.certificate_checker.specs.GoodCertificate.{pairs_of, ParentIsEarlier, HasChoice};
+ghost use Rattle.certificate_checker.specs.GoodCertificate.{HasLinks, Everywhere, links_of};
+ghost use Rattle.certificate_checker.specs.Failing.{FailsFirst, FirstFailing, AreLinked, Fails};
+ghost use Rattle.certificate_checker.specs.Failing.{RejectedBy};
 ghost use Rattle.certificate_checker.specs.Labels.{AreReached, HaveWidth};
 
 use crate::checked::Rejection;
@@ -15,7 +18,7 @@ use rulebook_order::{StepGraph, Steps, VectorOrder, extended, started};
 use std::alloc::Global;
 use std::sync::ledger::Ledger;
 
-/// The first label whose parent is not an earlier one.
+// The first label whose parent is not an earlier one.
 fn late_parent(labels: &[CertLabel]) -> Option<u32>
     requires { length labels.now < 2 ^ 32 }
     ensures { FirstFailing (length labels.now) (ParentIsEarlier labels.now) result }
@@ -28,7 +31,8 @@ fn late_parent(labels: &[CertLabel]) -> Option<u32>
     None
 }
 
-/// The states and running vectors of the labels, or the first label whose choice its parent's state has not.
+// The states and running vectors of the labels, or the first label whose choice its parent's state
+// has not.
 fn pairs<G: StepGraph, L: Ledger>(
     alloc: Global,
     graph: &G,
@@ -38,8 +42,13 @@ fn pairs<G: StepGraph, L: Ledger>(
     requires first { 0 < length labels.now }
     requires count { length labels.now < 2 ^ 32 }
     requires parents { Everywhere (length labels.now) (ParentIsEarlier labels.now) }
-    ensures pairs { IfOk result (λ r. IfOk r (λ ps. ps.items ≡ pairs_of (G.graph graph.now) labels.now)) }
-    ensures choices { IfOk result (λ r. MatchResult r (λ _. Everywhere (length labels.now) (HasChoice (G.graph graph.now) (pairs_of (G.graph graph.now) labels.now) labels.now)) (FailsFirst (length labels.now) (HasChoice (G.graph graph.now) (pairs_of (G.graph graph.now) labels.now) labels.now))) }
+    ensures pairs { IfOk result (λ r. IfOk r (λ ps. ps.items
+        ≡ pairs_of (G.graph graph.now) labels.now)) }
+    ensures choices { IfOk result (λ r. MatchResult r
+        (λ _. Everywhere (length labels.now) (HasChoice (G.graph graph.now)
+        (pairs_of (G.graph graph.now) labels.now) labels.now))
+        (FailsFirst (length labels.now) (HasChoice (G.graph graph.now)
+        (pairs_of (G.graph graph.now) labels.now) labels.now))) }
     ensures steps { steps.new ≤ steps.old + length labels.now }
 {
     let mut pairs = Vec::new(alloc);
@@ -57,7 +66,7 @@ fn pairs<G: StepGraph, L: Ledger>(
     Ok(Ok(pairs))
 }
 
-/// Whether the link of a choice names a label of the state that is no worse than the vector.
+// Whether the link of a choice names a label of the state that is no worse than the vector.
 fn is_linked_to<G: StepGraph, O: VectorOrder>(
     graph: &G,
     order: &O,
@@ -69,7 +78,9 @@ fn is_linked_to<G: StepGraph, O: VectorOrder>(
 ) -> bool
     requires vector { length vector.now ≡ O.rules order.now }
     requires widths { HaveWidth (O.rules order.now) pairs.now }
-    ensures { IsTrue result ↔ IsLinkedTo (Holds (O.no_worse order.now)) pairs.now links.now choice state.now vector.now }
+    ensures { IsTrue result
+        ↔ IsLinkedTo
+        (Holds (O.no_worse order.now)) pairs.now links.now choice state.now vector.now }
 {
     let _ = graph;
     match links.get(choice) {
@@ -82,7 +93,7 @@ fn is_linked_to<G: StepGraph, O: VectorOrder>(
     }
 }
 
-/// Whether each choice of a label has its link.
+// Whether each choice of a label has its link.
 fn is_linked<G: StepGraph, O: VectorOrder, L: Ledger>(
     alloc: Global,
     graph: &G,
@@ -96,7 +107,9 @@ fn is_linked<G: StepGraph, O: VectorOrder, L: Ledger>(
     requires order { (G.graph graph.now).width ≡ O.rules order.now }
     requires reached { IsReached (G.graph graph.now) state.now vector.now }
     requires widths { HaveWidth (O.rules order.now) pairs.now }
-    ensures linked { IfOk result (λ yes. IsTrue yes ↔ IsLinked (G.graph graph.now) (Holds (O.no_worse order.now)) pairs.now links.now state.now vector.now) }
+    ensures linked { IfOk result (λ yes. IsTrue yes
+        ↔ IsLinked (G.graph graph.now)
+        (Holds (O.no_worse order.now)) pairs.now links.now state.now vector.now) }
     ensures steps { steps.new ≤ steps.old + length links.now }
 {
     for choice in 0..graph.choices(state) {
@@ -119,7 +132,7 @@ fn is_linked<G: StepGraph, O: VectorOrder, L: Ledger>(
     Ok(true)
 }
 
-/// The first label with a choice that has no link.
+// The first label with a choice that has no link.
 fn unlinked_label<G: StepGraph, O: VectorOrder, L: Ledger>(
     alloc: Global,
     graph: &G,
@@ -132,7 +145,8 @@ fn unlinked_label<G: StepGraph, O: VectorOrder, L: Ledger>(
     requires count { length labels.now < 2 ^ 32 }
     requires length { length pairs.now ≡ length labels.now }
     requires reached { AreReached (G.graph graph.now) pairs.now }
-    ensures failing { IfOk result (FirstFailing (length labels.now) (HasLinks (G.graph graph.now) (Holds (O.no_worse order.now)) pairs.now labels.now)) }
+    ensures failing { IfOk result (FirstFailing (length labels.now)
+        (HasLinks (G.graph graph.now) (Holds (O.no_worse order.now)) pairs.now labels.now)) }
     ensures steps { steps.new ≤ steps.old + links_of labels.now }
 {
     for k in 0..labels.len() {
@@ -145,7 +159,8 @@ fn unlinked_label<G: StepGraph, O: VectorOrder, L: Ledger>(
     Ok(None)
 }
 
-/// The states and running vectors of the labels where conditions 1 to 4 hold, or the first that fails.
+/// The states and running vectors of the labels where conditions 1 to 4 hold, or the first that
+/// fails.
 pub fn check_labels<G: StepGraph, O: VectorOrder, L: Ledger>(
     alloc: Global,
     graph: &G,
@@ -155,9 +170,12 @@ pub fn check_labels<G: StepGraph, O: VectorOrder, L: Ledger>(
 ) -> Result<Vec<(G::State, Violation)>, Rejection>
     requires order { (G.graph graph.now).width ≡ O.rules order.now }
     requires count { length cert.now.labels < 2 ^ 32 }
-    ensures pairs { IfOk result (λ pairs. pairs.items ≡ pairs_of (G.graph graph.now) cert.now.labels) }
-    ensures linked { OnOk result (AreLinked (G.graph graph.now) (Holds (O.no_worse order.now)) cert.now.labels) }
-    ensures rejected { IfErr result (RejectedBy (Fails (G.graph graph.now) (Holds (O.no_worse order.now)) cert.now)) }
+    ensures pairs { IfOk result (λ pairs. pairs.items
+        ≡ pairs_of (G.graph graph.now) cert.now.labels) }
+    ensures linked { OnOk result (AreLinked (G.graph graph.now)
+        (Holds (O.no_worse order.now)) cert.now.labels) }
+    ensures rejected { IfErr result (RejectedBy (Fails (G.graph graph.now)
+        (Holds (O.no_worse order.now)) cert.now)) }
     ensures steps { steps.new ≤ steps.old + length cert.now.labels + links_of cert.now.labels }
 {
     let labels = cert.labels.as_slice();

@@ -1,7 +1,10 @@
 //! Checks certificates: a small judge of what a search, or anyone else, gives.
 //!
-//! The layer above uses the clauses of `check`: it accepts exactly the good certificates, and the answers of an accepted one are exactly the answer over the graph, each with a list of choices that attains it. Nothing of a search stands below this crate.
-//! The conditions of a good certificate stand in `specs/GoodCertificate.antt`, the first that fails in `specs/Failing.antt`, the answers with their lists in `specs/Answers.antt`.
+//! The layer above uses the clauses of `check`: it accepts exactly the good certificates, and the
+//! answers of an accepted one are exactly the answer over the graph, each with a list of choices
+//! that attains it. Nothing of a search stands below this crate.
+//! The conditions of a good certificate stand in `specs/GoodCertificate.antt`, the first that fails
+//! in `specs/Failing.antt`, the answers with their lists in `specs/Answers.antt`.
 #![tactic(auto)]
 
 mod answers;

@@ -1,5 +1,5 @@
 -- The lines of labels that are read are those that are written of the labels.
-use Rattle.std.proofs.Common.{◌≡◌, ℕ, zero, suc, ◌-◌, ◌<◌, ◌≤◌, ◌^◌, Bool, true, false, cond, List, [], ◌∷◌, ◌++◌, length, drop, map, Ok, refl, ap, ◌∙◌, arith, eqb}
+use Rattle.std.proofs.Common.{◌≡◌, ℕ, zero, suc, ◌-◌, ◌<◌, ◌≤◌, Bool, true, false, cond, List, [], ◌∷◌, ◌++◌, length, drop, map, Ok, refl, ap, ◌∙◌, arith, eqb}
 use Rattle.std.specs.Prelude.{nat_lt, codes}
 use Rattle.std.specs.List.{All, flat_map}
 use Rattle.std.specs.Str.{bytes_eq}
@@ -18,11 +18,11 @@ use Rattle.certificate_text.specs.Times.{read_times, after_front}
 use Rattle.certificate_text.specs.declared.fault.CertFault.{CertFault}
 use Rattle.certificate_text.proofs.NumberLaws.{done_same, read_on, passed, held, number_read, parts_joined}
 use Rattle.certificate_text.proofs.LineTexts.{Passes, passes_then, renamed_to, needed_read}
-use Rattle.certificate_text.specs.declared.TheConstants.{MAX_LABELS}
+use Rattle.certificate_text.specs.declared.TheConstants.{MAX_LABELS, PAST_NUMBERS}
 
 -- `labels N`
 
-count_more : (word count : List ℕ) (x n : ℕ) → word ≡ codes "labels" → (count ≡ decimal x) × (x < 10 ^ 9) → few_labels x ≡ Ok n
+count_more : (word count : List ℕ) (x n : ℕ) → word ≡ codes "labels" → (count ≡ decimal x) × (x < PAST_NUMBERS) → few_labels x ≡ Ok n
     → (word ∷ count ∷ [] ≡ codes "labels" ∷ map decimal (n ∷ [])) × (n ≤ MAX_LABELS)
 count_more word count x n e p h =
     let q = passed (nat_lt MAX_LABELS x) _ (Ok x) n h in
@@ -60,7 +60,7 @@ count_read from to n h =
 abbrev pub IsSmallPair : ℕ × ℕ → Type 0
 IsSmallPair p = IsSmall p.0 × IsSmall p.1
 
-pair_more : (a b : List ℕ) (x y : ℕ) (p : ℕ × ℕ) → (a ≡ decimal x) × (x < 10 ^ 9) → (b ≡ decimal y) × (y < 10 ^ 9) → (x, y) ≡ p
+pair_more : (a b : List ℕ) (x y : ℕ) (p : ℕ × ℕ) → (a ≡ decimal x) × (x < PAST_NUMBERS) → (b ≡ decimal y) × (y < PAST_NUMBERS) → (x, y) ≡ p
     → (a ∷ b ∷ [] ≡ decimal p.0 ∷ map decimal (p.1 ∷ [])) × IsSmallPair p
 pair_more a b x y p q r e = rw (← e, q.0, r.0) (refl, (q.1, r.1))
 

@@ -16,7 +16,7 @@ use Rattle.certificate_text.specs.ReadText.{label_count, head, heads, linked}
 use Rattle.certificate_text.specs.Text.{spaced, pair_line, head_of, links_line, named_line, IsSmall, HasSmallNumbers}
 use Rattle.certificate_text.specs.Times.{read_times, read_over}
 use Rattle.certificate_text.specs.declared.certificate.CertLabel.{CertLabel}
-use Rattle.certificate_text.proofs.NumberLaws.{both_true}
+use Rattle.reading.proofs.Truth.{both}
 use Rattle.certificate_text.proofs.LabelTexts.{IsSmallPair, FirstIsZero}
 use Rattle.certificate_text.proofs.LinkTexts.{links_of}
 use Rattle.certificate_text.proofs.WrittenNumbers.{Lacks, number_written, numbers_written, decimal_lacks, cells_lack, parts_written}
@@ -26,7 +26,7 @@ use Rattle.certificate_text.specs.declared.TheConstants.{MAX_LABELS, MAX_LINKS}
 -- a text that holds no byte c, by trying each
 pub lacks_by : (c : ℕ) (w : List ℕ) → list_all (λ b. not (eqb b c)) w ≡ true → Lacks c w
 lacks_by c [] h = All-nil (λ (b : ℕ). eqb b c ≡ false)
-lacks_by c (b ∷ w) h = let k = both_true (not (eqb b c)) _ h in All-cons (λ (b : ℕ). eqb b c ≡ false) b w (negated (eqb b c) k.0) (lacks_by c w k.1)
+lacks_by c (b ∷ w) h = let k = both (not (eqb b c)) _ h in All-cons (λ (b : ℕ). eqb b c ≡ false) b w (negated (eqb b c) k.0) (lacks_by c w k.1)
   where
     negated : (t : Bool) → not t ≡ true → t ≡ false
     negated true e = absurd cc

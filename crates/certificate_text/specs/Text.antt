@@ -1,14 +1,12 @@
 -- The text of a certificate, and which certificates have one. This project's own text.
-use Rattle.std.specs.Prelude.{◌≡◌, ◌<◌, ◌≤◌, ◌^◌, ℕ, List, [], ◌∷◌, ◌++◌, length, drop, All, codes}
+use Rattle.std.specs.Prelude.{◌≡◌, ◌<◌, ◌≤◌, ℕ, List, [], ◌∷◌, ◌++◌, length, drop, All, codes}
 use Rattle.std.specs.List.{flat_map, sum_by}
 use Rattle.std.specs.Fmt.{decimal}
+use Rattle.reading.specs.Bytes.{line_feed}
 use Rattle.text_lines.specs.Lines.{cell, cells}
 use Rattle.certificate_text.specs.declared.certificate.CertLabel.{CertLabel}
 use Rattle.certificate_text.specs.declared.certificate.Certificate.{Certificate}
-use Rattle.certificate_text.specs.declared.TheConstants.{MAX_LABELS, MAX_LINKS}
-
-abbrev pub line_feed : ℕ
-line_feed = 10
+use Rattle.certificate_text.specs.declared.TheConstants.{MAX_LABELS, MAX_LINKS, PAST_NUMBERS}
 
 -- a line and its line feed
 abbrev pub ended : List ℕ → List ℕ
@@ -46,10 +44,11 @@ label_lines labels =
 unfoldable pub text : Certificate → List ℕ
 text cert =
     ended (codes "rulebook certificate 1") ++ (label_lines cert.labels
-    ++ (named_line (codes "finals") cert.finals ++ (named_line (codes "goals") cert.goal_links ++ ended (codes "end"))))
+    ++ (named_line (codes "finals") cert.finals ++
+    (named_line (codes "goals") cert.goal_links ++ ended (codes "end"))))
 
 abbrev pub IsSmall : ℕ → Type 0
-IsSmall n = n < 10 ^ 9
+IsSmall n = n < PAST_NUMBERS
 
 pub record HasSmallNumbers (label : CertLabel) : Type 0 where
   pub parent : IsSmall label.parent

@@ -102,7 +102,7 @@ fn the_first_fault_is_told(rt: HostRuntime) {
     }
 }
 
-/// A text with a word in it so many times.
+// A text with a word in it so many times.
 fn text_with(
     alloc: Global,
     head: &[u8],

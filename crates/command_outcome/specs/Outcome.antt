@@ -67,7 +67,8 @@ EndsAs ending text (stop.Ended e written) = (e ≡ ending) × (written.items ≡
 EndsAs ending text (stop.Unread role) = ⊥
 EndsAs ending text stop.Unsaved = ⊥
 
--- the refusal of the file in the role by what is said of a fault; or want of memory, of which nothing is said
+-- the refusal of the file in the role by what is said of a fault; or want of memory, of which
+-- nothing is said
 abbrev pub Refuses : Role → Option (List ℕ) → Stop → Type 0
 Refuses r None end = end ≡ stop.NoMemory
 Refuses r (Some fault) end = EndsAs ending.Refused (refused_text r fault) end

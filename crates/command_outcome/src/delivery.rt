@@ -10,12 +10,14 @@ use std::alloc::{AllocError, Global};
 /// What a call comes to, before anything is written.
 #[derive(Drop)]
 pub struct Reply {
+    /// How the call is to end.
     pub status: Status,
+    /// What is to be written, whole.
     pub text: Vec<u8>,
 }
 
 impl Reply {
-    /// A reply with no text.
+    // A reply with no text.
     fn silent(alloc: Global, status: Status) -> Reply
         ensures { result.status ≡ status }
     {
@@ -38,7 +40,7 @@ impl Reply {
         }
     }
 
-    /// The line that says that the file in this role couldn't be read, or want of memory.
+    // The line that says that the file in this role couldn't be read, or want of memory.
     fn unread(alloc: Global, role: Role) -> Reply
         ensures { Says status.ReadFault (unread_text role) result.status result.text.items }
     {
@@ -74,7 +76,8 @@ impl Reply {
 
 /// Writes the reply's text in one go. Where memory ran out or a save failed there is none.
 pub fn deliver<K: Sink>(out: &mut K, reply: &Reply) -> Status
-    ensures { Delivers reply.now.status reply.now.text.items (paper K.written K.faults out.old) (paper K.written K.faults out.new) result }
+    ensures { Delivers reply.now.status reply.now.text.items (paper K.written K.faults out.old)
+        (paper K.written K.faults out.new) result }
 {
     match reply.status {
         Status::NoMemory | Status::WriteFault => reply.status,

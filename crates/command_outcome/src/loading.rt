@@ -11,7 +11,8 @@ pub fn load_bytes<S: Store>(
     role: Role,
     name: &str,
 ) -> Result<Vec<u8>, Stop>
-    ensures { LoadsBytes role name.now (shelf S.held S.faults S.failed store.old) (shelf S.held S.faults S.failed store.new) result }
+    ensures { LoadsBytes role name.now (shelf S.held S.faults S.failed store.old)
+        (shelf S.held S.faults S.failed store.new) result }
 {
     match store.load(alloc, name) {
         Ok(bytes) => Ok(bytes),
@@ -23,7 +24,8 @@ pub fn load_bytes<S: Store>(
 
 /// Saves the bytes under the name.
 pub fn save_bytes<S: Store>(store: &mut S, name: &str, bytes: &[u8]) -> Result<(), Stop>
-    ensures { Saves name.now bytes.now (shelf S.held S.faults S.failed store.old) (shelf S.held S.faults S.failed store.new) result }
+    ensures { Saves name.now bytes.now (shelf S.held S.faults S.failed store.old)
+        (shelf S.held S.faults S.failed store.new) result }
 {
     match store.save(name, bytes) {
         Ok(()) => Ok(()),

@@ -1,6 +1,7 @@
 ghost use Rattle.std.specs.Prelude.{◌≡◌, Some, IfOk};
 ghost use Rattle.command_outcome.specs.declared.outcome.Stop.TheVariants as stop;
-ghost use Rattle.command_outcome.specs.Outcome.{EndsAs, Refuses, fault_at, fault_of, refused_text, role_text, status_of};
+ghost use Rattle.command_outcome.specs.Outcome.{EndsAs, Refuses, fault_at, fault_of, refused_text};
+ghost use Rattle.command_outcome.specs.Outcome.{role_text, status_of};
 
 use preorder::NoMemory;
 use std::alloc::{AllocError, AllocFailed, Global};
@@ -29,32 +30,43 @@ pub enum Status {
 /// What an input is to a command.
 #[derive(Clone, Copy, Debug, PartialEq, Eq)]
 pub enum Role {
+    /// A book of rules.
     Book,
+    /// A table of vectors.
     Table,
+    /// A CommonRoad document.
     Scenario,
+    /// A lattice of maneuvers.
     Lattice,
     /// A list of maneuvers, which is a word and no file.
     List,
+    /// A certificate of an answer.
     Certificate,
     /// The book from which another is a step.
     Parent,
     /// The book that is a step from another.
     Child,
+    /// A script by which books are derived.
     Script,
+    /// Recordings of trajectories.
     Records,
 }
 
 /// What is due to a command whose work can't be done.
 #[derive(Clone, Copy, Debug, PartialEq, Eq)]
 pub enum Ending {
+    /// An input has a fault, or inputs don't go together.
     Refused,
+    /// A certificate fails a condition.
     Rejected,
+    /// There are more undominated labels than are searched.
     TooManyLabels,
 }
 
 /// Why a command ends before its work is done.
 #[derive(Drop)]
 pub enum Stop {
+    /// Memory ran out.
     NoMemory,
     /// The file in this role couldn't be read.
     Unread(Role),

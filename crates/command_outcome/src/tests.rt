@@ -20,7 +20,7 @@ fn a_file_that_is_not_held_is_unread(rt: HostRuntime) -> Result<(), Fail> {
     Ok(())
 }
 
-/// Whether the name holds these bytes.
+// Whether the name holds these bytes.
 fn holds(store: &MemoryStore, name: &str, bytes: &[u8]) -> bool {
     match store.get(name) {
         Some(held) => held == bytes,

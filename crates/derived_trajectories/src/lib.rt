@@ -1,7 +1,9 @@
-//! What derived books say of trajectories: of two of which one beats the other by a book, it does so by each book that a script derives from it.
+//! What derived books say of trajectories: of two of which one beats the other by a book, it does
+//! so by each book that a script derives from it.
 //!
 //! No room above uses it; it says what the laws on derived books mean for what is driven.
-//! The definitions stand in `book_operations` (`specs/Scripts.antt`) and `violation_measures` (`specs/Vectors.antt`).
+//! The definitions stand in `book_operations` (`specs/Scripts.antt`) and `violation_measures`
+//! (`specs/Vectors.antt`).
 #![tactic(auto)]
 
 ghost use Rattle.std.specs.Prelude.{ℕ, List};
@@ -13,12 +15,18 @@ ghost use Rattle.violation_measures.specs.Vectors.{trajectory_vector};
 ghost use Rattle.violation_measures.specs.declared.bound.Bound.{Bound};
 ghost use Rattle.violation_measures.specs.declared.step.Step.{Step};
 
-/// Where a script derives the last book from the first, the vector of a trajectory by the last carries its vector by the first, for any source of
-/// features. So where the script keeps preferences, as one that `apply_script` accepts does, of two trajectories of which one beats the other by the
-/// first book, it does so by the last.
+/// Where a script derives the last book from the first, the vector of a trajectory by the last
+/// carries its vector by the first, for any source of features. So where the script keeps
+/// preferences, as one that `apply_script` accepts does, of two trajectories of which one beats the
+/// other by the first book, it does so by the last.
 pub fn derived_books_keep_trajectories()
-    ensures carried { (f : Features) (script : List ℕ) (first last : Bound) (steps : List Step) → IsBook first.book → IsDerivedBy script first.book last.book
-        → CarriesThrough 1 (lines_of script) first.book (trajectory_vector f first steps) (trajectory_vector f last steps) }
-    ensures kept { (f : Features) (script : List ℕ) (first last : Bound) (steps others : List Step) → IsBook first.book → IsDerivedBy script first.book last.book → KeepsThrough 1 (lines_of script) first.book last.book
-        → BeatsIn first.book (trajectory_vector f first steps) (trajectory_vector f first others) → BeatsIn last.book (trajectory_vector f last steps) (trajectory_vector f last others) }
+    ensures carried { (f : Features) (script : List ℕ) (first last : Bound) (steps : List Step)
+        → IsBook first.book → IsDerivedBy script first.book last.book
+        → CarriesThrough 1 (lines_of script) first.book (trajectory_vector f first steps)
+        (trajectory_vector f last steps) }
+    ensures kept { (f : Features) (script : List ℕ) (first last : Bound) (steps others : List Step)
+        → IsBook first.book → IsDerivedBy script first.book last.book
+        → KeepsThrough 1 (lines_of script) first.book last.book
+        → BeatsIn first.book (trajectory_vector f first steps) (trajectory_vector f first others)
+        → BeatsIn last.book (trajectory_vector f last steps) (trajectory_vector f last others) }
 {}

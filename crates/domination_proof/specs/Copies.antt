@@ -11,4 +11,9 @@ cert_label label = record { parent = label.parent; choice = label.choice; links 
 
 -- the numbers of what was found
 abbrev pub cert_of : {S : Type 0} → Found S → Certificate
-cert_of found = record { labels = map cert_label found.labels; finals = found.finals; goal_links = found.goal_links }
+cert_of found =
+    record {
+      labels = map cert_label found.labels;
+      finals = found.finals;
+      goal_links = found.goal_links;
+    }

@@ -1,6 +1,10 @@
 //! Certificates of what a search found.
 //!
-//! The layer above uses that `certificate_of` gives the same numbers, and the laws: what a search found is a good certificate, whose answers are the answer over the graph, which a check accepts, and which has a text within the limits. The type, its text and its limits are those of `certificate_text`; when a certificate is good stands in `certificate_checker`, below which there is no search.
+//! The layer above uses that `certificate_of` gives the same numbers, and the laws: what a search
+//! found is a good certificate, whose answers are the answer over the graph, which a check accepts,
+//! and which has a text within the limits. The type, its text and its limits are those of
+//! `certificate_text`; when a certificate is good stands in `certificate_checker`, below which
+//! there is no search.
 //! The definitions stand in `specs/Copies.antt` and `specs/Shown.antt`.
 #![tactic(auto)]
 

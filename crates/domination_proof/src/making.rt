@@ -8,7 +8,7 @@ use label_search::{Found, Label};
 use preorder::{List, NoMemory};
 use std::alloc::Global;
 
-/// The same numbers.
+// The same numbers.
 fn copy_of(alloc: Global, numbers: &[u32]) -> Result<List<u32>, NoMemory>
     ensures { IfOk result (λ copy. copy ≡ numbers.now) }
 {
@@ -19,7 +19,7 @@ fn copy_of(alloc: Global, numbers: &[u32]) -> Result<List<u32>, NoMemory>
     Ok(copy)
 }
 
-/// The numbers of the labels.
+// The numbers of the labels.
 fn labels_of<S>(alloc: Global, labels: &[Label<S>]) -> Result<List<CertLabel>, NoMemory>
     ensures { IfOk result (λ copies. copies ≡ map cert_label labels.now) }
 {
@@ -34,8 +34,8 @@ fn labels_of<S>(alloc: Global, labels: &[Label<S>]) -> Result<List<CertLabel>, N
     Ok(copies)
 }
 
-/// The certificate with the same numbers, without states and vectors. By `found_is_good` it is good where a search found
-/// them.
+/// The certificate with the same numbers, without states and vectors. By `found_is_good` it is good
+/// where a search found them.
 pub fn certificate_of<S: Copy>(alloc: Global, found: &Found<S>) -> Result<Certificate, NoMemory>
     ensures { IfOk result (λ cert. cert ≡ cert_of found.now) }
 {

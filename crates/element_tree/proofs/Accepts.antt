@@ -9,20 +9,21 @@ use Rattle.element_tree.specs.declared.node.Node.{Node}
 use Rattle.element_tree.specs.declared.fault.MarkupFault.{MarkupFault}
 use Rattle.element_tree.specs.declared.token.Kind.{Kind}
 use Rattle.element_tree.specs.declared.token.Kind.TheVariants.{Text, Aside, End, Start}
-use Rattle.element_tree.specs.Bytes.{is_space}
-use Rattle.element_tree.specs.Pieces.{run}
-use Rattle.reading.specs.Reading.{◌>>=◌}
+use Rattle.element_tree.specs.Bytes.{is_space, byte_order_mark}
+use Rattle.reading.specs.Reading.{◌>>=◌, read_all}
 use Rattle.element_tree.specs.State.{State}
 use Rattle.element_tree.specs.Tags.{start_tag, is_end_tag}
 use Rattle.element_tree.specs.Tokens.{begins}
 use Rattle.element_tree.specs.Documents.{text_step, end_step, start_step, step, finish, read_on, markup}
 use Rattle.element_tree.specs.Contents.{Content, nothing, text, aside, empty, element, tokens, size, nodes, IsProper, IsBlank, roots, mark_len, after_mark, IsDocument, IsNoDocument}
+use Rattle.element_tree.specs.declared.limits.TheConstants.{MAX_ELEMENTS, MAX_DEPTH}
+use Rattle.element_tree.proofs.ContentLaws.{not_both}
 
 abbrev Token : Type 0
 Token = Kind × List ℕ
 
 abbrev is_shallow : Node → Type 0
-is_shallow n = n.depth < 32
+is_shallow n = n.depth < MAX_DEPTH
 
 abbrev read : ℕ → List Node → List (List ℕ) → State
 read at ns names = record { at = at; nodes = ns; unended = names }
@@ -41,13 +42,13 @@ unfolding end_step
 end_on e name at ns names h = rw h refl
 
 start_on : (tag name : List ℕ) (v : Bool) (at : ℕ) (ns : List Node) (names : List (List ℕ)) → start_tag tag ≡ Some (name, v)
-    → eqb (length names) 0 && not (eqb (length ns) 0) ≡ false → leb 32 (length names) ≡ false → leb 2000000 (length ns) ≡ false
+    → eqb (length names) 0 && not (eqb (length ns) 0) ≡ false → leb MAX_DEPTH (length names) ≡ false → leb MAX_ELEMENTS (length ns) ≡ false
     → step (Start, tag) (read at ns names) ≡ Ok (read (at + length tag) (ns ++ node at tag (length names) ∷ []) (cond v names (name ∷ names)))
 unfolding start_step
 start_on tag name v at ns names h k j i = rw (h, k, j, i) refl
 
-run_on : (t : Token) (ts : List Token) (s u : State) → step t s ≡ Ok u → run step (t ∷ ts) s ≡ run step ts u
-unfolding run
+run_on : (t : Token) (ts : List Token) (s u : State) → step t s ≡ Ok u → read_all step (t ∷ ts) s ≡ read_all step ts u
+unfolding read_all
 run_on t ts s u e = rw e refl
 
 blank_test : (names : List (List ℕ)) (p : Bool) → (names ≡ [] → p ≡ true) → eqb (length names) 0 && not p ≡ false
@@ -71,26 +72,26 @@ right_part (x ∷ xs) ys h = right_part xs ys (All-tail is_shallow x (xs ++ ys) 
 record Fits (at : ℕ) (ns : List Node) (names : List (List ℕ)) (c : Content) : Type 0 where
   proper : IsProper c
   shallow : All is_shallow (nodes at (length names) c)
-  few : length ns + length (nodes at (length names) c) ≤ 2000000
+  few : length ns + length (nodes at (length names) c) ≤ MAX_ELEMENTS
   blank : names ≡ [] → IsBlank c
   root : names ≡ [] → (1 ≤ length ns → roots c ≡ 0) × (roots c ≤ 1)
 
 abbrev Reads : ℕ → List Node → List (List ℕ) → Content → Type 0
-Reads at ns names c = (more : List Token) → run step (tokens c ++ more) (read at ns names) ≡ run step more (read (at + size c) (ns ++ nodes at (length names) c) names)
+Reads at ns names c = (more : List Token) → read_all step (tokens c ++ more) (read at ns names) ≡ read_all step more (read (at + size c) (ns ++ nodes at (length names) c) names)
 
-arrive : (more : List Token) (a b : ℕ) (ns ms : List Node) (names : List (List ℕ)) → a ≡ b → ns ≡ ms → run step more (read a ns names) ≡ run step more (read b ms names)
+arrive : (more : List Token) (a b : ℕ) (ns ms : List Node) (names : List (List ℕ)) → a ≡ b → ns ≡ ms → read_all step more (read a ns names) ≡ read_all step more (read b ms names)
 arrive more a b ns ms names e h = rw (e, h) refl
 
 -- one element's node before those of what follows
 step_in : (tag : List ℕ) (at : ℕ) (ns : List Node) (names : List (List ℕ)) (r : ℕ) (rest : List Node)
-    → All is_shallow (node at tag (length names) ∷ rest) → length ns + length (node at tag (length names) ∷ rest) ≤ 2000000
+    → All is_shallow (node at tag (length names) ∷ rest) → length ns + length (node at tag (length names) ∷ rest) ≤ MAX_ELEMENTS
     → (names ≡ [] → (1 ≤ length ns → 1 + r ≡ 0) × (1 + r ≤ 1))
     → (name : List ℕ) (v : Bool) → start_tag tag ≡ Some (name, v)
     → step (Start, tag) (read at ns names) ≡ Ok (read (at + length tag) (ns ++ node at tag (length names) ∷ []) (cond v names (name ∷ names)))
 step_in tag at ns names r rest h k g name v e =
     let n = node at tag (length names) in
-    let lt : length names < 32 = All-head is_shallow n rest h in
-    start_on tag name v at ns names e (root_test names ns r g) (lt-leb 32 (length names) lt) (lt-leb 2000000 (length ns) (omega (arith, k)))
+    let lt : length names < MAX_DEPTH = All-head is_shallow n rest h in
+    start_on tag name v at ns names e (root_test names ns r g) (lt-leb MAX_DEPTH (length names) lt) (lt-leb MAX_ELEMENTS (length ns) (omega (arith, k)))
 
 after_root : (ns : List Node) (n : Node) (more : List Node) (names : List (List ℕ)) (r : ℕ)
     → (names ≡ [] → (1 ≤ length ns → 1 + r ≡ 0) × (1 + r ≤ 1)) → names ≡ [] → (1 ≤ length more → r ≡ 0) × (r ≤ 1)
@@ -149,7 +150,7 @@ reads (element tag inside e c) at ns names w more =
     } in
     run_on (Start, tag) ((tokens inside ++ (End, e) ∷ tokens c) ++ more) (read at ns names) (read (at + length tag) ms (name ∷ names))
     (step_in tag at ns names (roots c) (inner ++ rest) w.shallow w.few w.root name false p.0.1)
-    ∙ ap (λ (ts : List Token). run step ts (read (at + length tag) ms (name ∷ names))) (append_assoc (tokens inside) ((End, e) ∷ tokens c) more)
+    ∙ ap (λ (ts : List Token). read_all step ts (read (at + length tag) ms (name ∷ names))) (append_assoc (tokens inside) ((End, e) ∷ tokens c) more)
     ∙ reads inside (at + length tag) ms (name ∷ names) inward ((End, e) ∷ (tokens c ++ more))
     ∙ run_on (End, e) (tokens c ++ more) (read (at + length tag + size inside) (ms ++ inner) (name ∷ names)) (read place (ms ++ inner) names) (end_on e name (at + length tag + size inside) (ms ++ inner) names p.0.2)
     ∙ reads c place (ms ++ inner) names onward more
@@ -167,11 +168,11 @@ finish_on : (at : ℕ) (ns : List Node) → eqb (length ns) 0 ≡ false → fini
 unfolding finish
 finish_on at ns e = rw e refl
 
-to_end : (c : Content) (at : ℕ) → run step (tokens c ++ []) (read at [] []) ≡ run step [] (read (at + size c) (nodes at 0 c) []) → roots c ≡ 1
-    → (run step (tokens c) (read at [] []) >>= finish []) ≡ Ok (nodes at 0 c)
-unfolding run
+to_end : (c : Content) (at : ℕ) → read_all step (tokens c ++ []) (read at [] []) ≡ read_all step [] (read (at + size c) (nodes at 0 c) []) → roots c ≡ 1
+    → (read_all step (tokens c) (read at [] []) >>= finish []) ≡ Ok (nodes at 0 c)
+unfolding read_all
 to_end c at e h =
-    ap (λ (ts : List Token). run step ts (read at [] []) >>= finish []) (sym (append-nil (tokens c))) ∙ rw e (finish_on (at + size c) (nodes at 0 c) (has_node c at h))
+    ap (λ (ts : List Token). read_all step ts (read at [] []) >>= finish []) (sym (append-nil (tokens c))) ∙ rw e (finish_on (at + size c) (nodes at 0 c) (has_node c at h))
 
 accepted : (at : ℕ) (bytes : List ℕ) (elements : List Node) → IsDocument at bytes elements → read_on bytes (read at [] []) ≡ Ok elements
 unfolding read_on
@@ -181,11 +182,11 @@ accepted at bytes elements w =
     let fits : Fits at [] [] c = record {
       proper = w.proper;
       shallow = subst (λ ns. All is_shallow ns) w.shown w.shallow;
-      few = (let k : length (nodes at 0 c) ≤ 2000000 = subst (λ ns. length ns ≤ 2000000) w.shown w.few in omega (arith, k));
+      few = (let k : length (nodes at 0 c) ≤ MAX_ELEMENTS = subst (λ ns. length ns ≤ MAX_ELEMENTS) w.shown w.few in omega (arith, k));
       blank = λ z. w.blank;
       root = λ z. (λ h. absurd (omega (arith, h)), (let k = w.root in omega (arith, k)));
     } in
-    ap (λ (p : List Token × List ℕ). run step p.0 (read at [] []) >>= finish p.1) w.cut
+    ap (λ (p : List Token × List ℕ). read_all step p.0 (read at [] []) >>= finish p.1) w.cut
     ∙ to_end c at (reads c at [] [] fits []) w.root ∙ ap ok (sym w.shown)
 
 marked : (b : Bool) (bytes rest : List ℕ) (elements : List Node) → IsDocument (cond b 3 0) (cond b rest bytes) elements
@@ -196,11 +197,7 @@ marked false bytes rest elements w = accepted 0 bytes elements w
 -- each document is read, with its elements
 pub document_read : (bytes : List ℕ) (elements : List Node) → IsDocument (mark_len bytes) (after_mark bytes) elements → markup bytes ≡ Ok elements
 unfolding markup
-document_read bytes elements w = marked (begins bytes (239 ∷ 187 ∷ 191 ∷ [])) bytes (drop 3 bytes) elements w
-
-not_both : (r : Result (List Node) MarkupFault) (elements : List Node) (f : MarkupFault) → r ≡ Ok elements → r ≡ Err f → ⊥
-not_both (Ok x) elements f e h = absurd cc
-not_both (Err d) elements f e h = absurd cc
+document_read bytes elements w = marked (begins bytes byte_order_mark) bytes (drop 3 bytes) elements w
 
 -- no document is refused
 pub none_refused : (bytes : List ℕ) (f : MarkupFault) (b : Bool) → OnFalse b (markup bytes ≡ Err f) → OnFalse b (IsNoDocument (mark_len bytes) (after_mark bytes))

@@ -8,12 +8,12 @@ use Rattle.element_tree.specs.declared.fault.MarkupFault.TheVariants.{Malformed,
 use Rattle.element_tree.specs.declared.token.Kind.{Kind}
 use Rattle.element_tree.specs.declared.token.Kind.TheVariants.{Text, Aside, End, Start}
 use Rattle.element_tree.specs.Bytes.{is_space}
-use Rattle.element_tree.specs.Pieces.{run}
-use Rattle.reading.specs.Reading.{◌>>=◌}
+use Rattle.reading.specs.Reading.{◌>>=◌, read_all}
 use Rattle.element_tree.specs.Tags.{start_tag, is_end_tag}
 use Rattle.element_tree.specs.State.{State}
 use Rattle.element_tree.specs.Documents.{text_step, end_step, start_step, closed, opened, step_of, step}
 use Rattle.element_tree.specs.Contents.{Content, nothing, text, aside, empty, element, tokens, size, nodes, IsProper, IsBlank}
+use Rattle.element_tree.specs.declared.limits.TheConstants.{MAX_ELEMENTS, MAX_DEPTH}
 
 abbrev Token : Type 0
 Token = Kind × List ℕ
@@ -87,8 +87,13 @@ pub then_ok : {F A : Type 0} (b : Bool) (d : F) (x : Result A F) (y : A) → con
 then_ok true d x y e = (refl, e)
 then_ok false d x y e = absurd cc
 
-same_state : (r : Result State MarkupFault) (s u : State) → r ≡ Ok s → r ≡ Ok u → s ≡ u
-same_state r s u e f = cc
+-- one result has one value, and no fault beside it
+pub same_value : {A F : Type 0} (r : Result A F) (x y : A) → r ≡ Ok x → r ≡ Ok y → x ≡ y
+same_value r x y e h = cc
+
+pub not_both : {A F : Type 0} (r : Result A F) (x : A) (f : F) → r ≡ Ok x → r ≡ Err f → ⊥
+not_both (Ok y) x f e h = absurd cc
+not_both (Err d) x f e h = absurd cc
 
 -- a step backwards: from what follows the token to what begins with it
 abbrev Back : State → State → Token → Type 0
@@ -110,12 +115,12 @@ text_back : (b : List ℕ) (s u : State) → text_step b s ≡ Ok u → Back s (
 unfolding text_step
 text_back b s u e =
     let k = else_ok (eqb (length s.unended) 0 && not (list_all is_space b)) (Malformed s.at) (Ok s) u e in
-    along s s u (Text, b) (same_state (Ok s) s u refl k.1)
+    along s s u (Text, b) (same_value (Ok s) s u refl k.1)
     (λ ts ns w. (ns, refl, front (text b) (Text, b) [] s.at (λ c p. p) (λ c. refl) (λ c. refl) s.unended (λ c. refl) (λ z c p. (blank_outside s.unended (list_all is_space b) k.0 z, p)) ts ns w))
 
 aside_back : (b : List ℕ) (s u : State) → step_of Aside b s ≡ Ok u → Back s (past s (Aside, b) u) (Aside, b)
 aside_back b s u e =
-    along s s u (Aside, b) (same_state (Ok s) s u refl e)
+    along s s u (Aside, b) (same_value (Ok s) s u refl e)
     (λ ts ns w. (ns, refl, front (aside b) (Aside, b) [] s.at (λ c p. p) (λ c. refl) (λ c. refl) s.unended (λ c. refl) (λ z c p. p) ts ns w))
 
 end_case : (b : List ℕ) (s u : State) (names : List (List ℕ)) → names ≡ s.unended → closed b s names ≡ Ok u → Back s (past s (End, b) u) (End, b)
@@ -123,7 +128,7 @@ end_case b s u [] same e = absurd cc
 end_case b s u (name ∷ others) same e =
     let next : State = record s { unended = others } in
     let k = then_ok (is_end_tag name b) (Malformed s.at) (Ok next) u e in
-    along s next u (End, b) (same_state (Ok next) next u refl k.1)
+    along s next u (End, b) (same_value (Ok next) next u refl k.1)
     (λ ts ns w. (
       ns,
       refl,
@@ -144,11 +149,11 @@ start_case : (b : List ℕ) (s u : State) (o : Option (List ℕ × Bool)) → st
 start_case b s u None h e = absurd cc
 start_case b s u (Some tag) h e =
     let next : State = record s { nodes = s.nodes ++ node s.at b (length s.unended) ∷ []; unended = cond tag.1 s.unended (tag.0 ∷ s.unended) } in
-    let last : Result State MarkupFault = cond (leb 2000000 (length s.nodes)) (Err (TooMany s.at)) (Ok next) in
-    let k = else_ok (eqb (length s.unended) 0 && not (eqb (length s.nodes) 0)) (Malformed s.at) (cond (leb 32 (length s.unended)) (Err (TooDeep s.at)) last) u e in
-    let j = else_ok (leb 32 (length s.unended)) (TooDeep s.at) last u k.1 in
-    let i = else_ok (leb 2000000 (length s.nodes)) (TooMany s.at) (Ok next) u j.1 in
-    along s next u (Start, b) (same_state (Ok next) next u refl i.1) (start_end b tag.0 tag.1 s h)
+    let last : Result State MarkupFault = cond (leb MAX_ELEMENTS (length s.nodes)) (Err (TooMany s.at)) (Ok next) in
+    let k = else_ok (eqb (length s.unended) 0 && not (eqb (length s.nodes) 0)) (Malformed s.at) (cond (leb MAX_DEPTH (length s.unended)) (Err (TooDeep s.at)) last) u e in
+    let j = else_ok (leb MAX_DEPTH (length s.unended)) (TooDeep s.at) last u k.1 in
+    let i = else_ok (leb MAX_ELEMENTS (length s.nodes)) (TooMany s.at) (Ok next) u j.1 in
+    along s next u (Start, b) (same_value (Ok next) next u refl i.1) (start_end b tag.0 tag.1 s h)
 
 kind_back : (kind : Kind) (b : List ℕ) (s u : State) → step_of kind b s ≡ Ok u → Back s (past s (kind, b) u) (kind, b)
 unfolding end_step start_step
@@ -162,16 +167,16 @@ step_back t s u e =
     let k = bind_ok (step_of t.0 t.1 s) (λ v. Ok (record v { at = s.at + length t.1 })) u e in
     let next : State = past s t k.0 in
     let P : State → Type 0 = λ x. Back s x t in
-    subst P (same_state (Ok next) next u refl k.2) (kind_back t.0 t.1 s k.0 k.1)
+    subst P (same_value (Ok next) next u refl k.2) (kind_back t.0 t.1 s k.0 k.1)
 
-pub all_back : (ts : List Token) (s u : State) → run step ts s ≡ Ok u → u.unended ≡ [] → (ns : List Node) × (u.nodes ≡ s.nodes ++ ns) × Closes s.at s.unended ts ns
-unfolding run
+pub all_back : (ts : List Token) (s u : State) → read_all step ts s ≡ Ok u → u.unended ≡ [] → (ns : List Node) × (u.nodes ≡ s.nodes ++ ns) × Closes s.at s.unended ts ns
+unfolding read_all
 all_back [] s u e h =
-    let same = same_state (Ok s) s u refl e in
+    let same = same_value (Ok s) s u refl e in
     let P : List (List ℕ) → Type 0 = λ names. Closes s.at names [] [] in
     ([], ap (λ (x : State). x.nodes) (sym same) ∙ sym (append-nil s.nodes), subst P (sym (ap (λ (x : State). x.unended) same ∙ h)) (nothing, tt, refl, refl, tt))
 all_back (t ∷ ts) s u e h =
-    let k = bind_ok (step t s) (run step ts) u e in
+    let k = bind_ok (step t s) (read_all step ts) u e in
     let w = all_back ts k.0 u k.2 h in
     let v = step_back t s k.0 k.1 ts w.0 w.2 in
     (v.0, w.1 ∙ v.1, v.2)

@@ -8,9 +8,9 @@ use Rattle.element_tree.specs.declared.fault.MarkupFault.{MarkupFault}
 use Rattle.element_tree.specs.declared.fault.MarkupFault.TheVariants.{Malformed, Truncated, TooDeep, TooMany, Unsupported}
 use Rattle.element_tree.specs.declared.token.Kind.{Kind}
 use Rattle.element_tree.specs.declared.token.Kind.TheVariants.{Text, Aside, End, Start}
-use Rattle.element_tree.specs.Bytes.{is_space}
-use Rattle.element_tree.specs.Pieces.{or_end, pieces, run}
-use Rattle.reading.specs.Reading.{◌>>=◌}
+use Rattle.element_tree.specs.Bytes.{is_space, byte_order_mark}
+use Rattle.element_tree.specs.Pieces.{or_end, pieces}
+use Rattle.reading.specs.Reading.{◌>>=◌, read_all}
 use Rattle.element_tree.specs.State.{State}
 use Rattle.element_tree.specs.Tags.{start_tag, is_end_tag}
 use Rattle.element_tree.specs.Tokens.{begins, cut_token}
@@ -21,6 +21,7 @@ use Rattle.element_tree.proofs.PieceLaws.{pieces_unroll}
 use Rattle.element_tree.proofs.Tokens.{token_shrinks}
 use Rattle.element_tree.proofs.Wholes.{token_whole}
 use Rattle.element_tree.proofs.ContentLaws.{bind_ok}
+use Rattle.element_tree.specs.declared.limits.TheConstants.{MAX_ELEMENTS, MAX_DEPTH}
 
 abbrev Token : Type 0
 Token = Kind × List ℕ
@@ -42,10 +43,10 @@ opened_at : (token : List ℕ) (s : State) (o : Option (List ℕ × Bool)) → F
 opened_at token s None = refl
 opened_at token s (Some tag) =
     let next : State = record s { nodes = s.nodes ++ (record { place = s.at; len = length token; depth = length s.unended }) ∷ []; unended = cond tag.1 s.unended (tag.0 ∷ s.unended) } in
-    let last : Result State MarkupFault = cond (leb 2000000 (length s.nodes)) (Err (TooMany s.at)) (Ok next) in
-    let deep : Result State MarkupFault = cond (leb 32 (length s.unended)) (Err (TooDeep s.at)) last in
+    let last : Result State MarkupFault = cond (leb MAX_ELEMENTS (length s.nodes)) (Err (TooMany s.at)) (Ok next) in
+    let deep : Result State MarkupFault = cond (leb MAX_DEPTH (length s.unended)) (Err (TooDeep s.at)) last in
     either_at s.at (eqb (length s.unended) 0 && not (eqb (length s.nodes) 0)) (Err (Malformed s.at)) deep refl
-    (either_at s.at (leb 32 (length s.unended)) (Err (TooDeep s.at)) last refl (either_at s.at (leb 2000000 (length s.nodes)) (Err (TooMany s.at)) (Ok next) refl tt))
+    (either_at s.at (leb MAX_DEPTH (length s.unended)) (Err (TooDeep s.at)) last refl (either_at s.at (leb MAX_ELEMENTS (length s.nodes)) (Err (TooMany s.at)) (Ok next) refl tt))
 
 kind_at : (kind : Kind) (token : List ℕ) (s : State) → FaultsAt s.at (step_of kind token s)
 unfolding text_step end_step start_step
@@ -90,10 +91,10 @@ step_place t s u e =
 
 -- reading from the first token on, by the token that is cut off
 abbrev read_from : List ℕ → State → Option (Token × List ℕ) → Result (List Node) MarkupFault
-read_from bytes s o = run step (or_end bytes (pieces cut_token) o).0 s >>= finish (or_end bytes (pieces cut_token) o).1
+read_from bytes s o = read_all step (or_end bytes (pieces cut_token) o).0 s >>= finish (or_end bytes (pieces cut_token) o).1
 
 here : (s : State) (bytes : List ℕ) (f : MarkupFault) → IsNext (cut_token bytes) bytes s f → IsAt s.at f → IsFirstFault s bytes f
-unfolding run
+unfolding read_all
 here s bytes f next at = record {
   before = [];
   rest = bytes;
@@ -106,7 +107,7 @@ here s bytes f next at = record {
 }
 
 later : (s u : State) (bytes : List ℕ) (x : Token × List ℕ) (f : MarkupFault) → cut_token bytes ≡ Some x → step x.0 s ≡ Ok u → IsFirstFault u x.1 f → IsFirstFault s bytes f
-unfolding run
+unfolding read_all
 later s u bytes x f e h w = record {
   before = x.0 ∷ w.before;
   rest = w.rest;
@@ -121,7 +122,7 @@ later s u bytes x f e h w = record {
 
 by_step : (bytes : List ℕ) (s : State) (x : Token × List ℕ) (f : MarkupFault)
     → ((u : State) → read_on x.1 u ≡ Err f → IsFirstFault u x.1 f) → cut_token bytes ≡ Some x
-    → (r : Result State MarkupFault) → step x.0 s ≡ r → ((r >>= run step (pieces cut_token x.1).0) >>= finish (pieces cut_token x.1).1) ≡ Err f → IsFirstFault s bytes f
+    → (r : Result State MarkupFault) → step x.0 s ≡ r → ((r >>= read_all step (pieces cut_token x.1).0) >>= finish (pieces cut_token x.1).1) ≡ Err f → IsFirstFault s bytes f
 unfolding read_on
 by_step bytes s x f again e (Ok u) h k = later s u bytes x f e h (again u k)
 by_step bytes s x f again e (Err d) h k =
@@ -135,14 +136,14 @@ by_step bytes s x f again e (Err d) h k =
 by_token : (bytes : List ℕ) (s : State) (f : MarkupFault)
     → ((rest : List ℕ) (u : State) → length rest < length bytes → read_on rest u ≡ Err f → IsFirstFault u rest f)
     → (o : Option (Token × List ℕ)) → cut_token bytes ≡ o → read_from bytes s o ≡ Err f → IsFirstFault s bytes f
-unfolding run
+unfolding read_all
 by_token bytes s f again None e h = here s bytes f (rw e h) (fault_of s.at (finish bytes s) f h (finish_faults bytes s))
 by_token bytes s f again (Some x) e h = by_step bytes s x f (λ u k. again x.1 u (token_shrinks bytes x e) k) e (step x.0 s) refl h
 
 unrolled : (bytes : List ℕ) (s : State) (f : MarkupFault) → read_on bytes s ≡ Err f → read_from bytes s (cut_token bytes) ≡ Err f
 unfolding read_on
 unrolled bytes s f e =
-    let P : List Token × List ℕ → Type 0 = λ p. (run step p.0 s >>= finish p.1) ≡ Err f in
+    let P : List Token × List ℕ → Type 0 = λ p. (read_all step p.0 s >>= finish p.1) ≡ Err f in
     subst P (pieces_unroll cut_token token_shrinks bytes) e
 
 first_within : (n : ℕ) (bytes : List ℕ) (s : State) (f : MarkupFault) → length bytes ≤ n → read_on bytes s ≡ Err f → IsFirstFault s bytes f
@@ -157,7 +158,7 @@ marked false bytes rest f e = first_within (length bytes) bytes (record { at = 0
 
 markup_first : (bytes : List ℕ) (f : MarkupFault) → markup bytes ≡ Err f → IsFirstFault (at_front bytes) (after_mark bytes) f
 unfolding markup
-markup_first bytes f e = marked (begins bytes (239 ∷ 187 ∷ 191 ∷ [])) bytes (drop 3 bytes) f e
+markup_first bytes f e = marked (begins bytes byte_order_mark) bytes (drop 3 bytes) f e
 
 -- a fault that is answered is the first of the document
 pub first_answered : (bytes : List ℕ) (f : MarkupFault) (b : Bool) → OnFalse b (markup bytes ≡ Err f) → OnFalse b (IsFirstFault (at_front bytes) (after_mark bytes) f)

@@ -9,24 +9,25 @@ use Rattle.element_tree.specs.declared.fault.MarkupFault.TheVariants.{Malformed,
 use Rattle.element_tree.specs.declared.token.Kind.{Kind}
 use Rattle.element_tree.specs.declared.token.Kind.TheVariants.{Text, Aside, End, Start}
 use Rattle.element_tree.specs.Bytes.{is_space}
-use Rattle.element_tree.specs.Pieces.{run}
 use Rattle.element_tree.specs.Tags.{start_tag, is_end_tag}
 use Rattle.element_tree.specs.State.{State}
 use Rattle.element_tree.specs.Documents.{text_step, end_step, start_step, closed, opened, step_of, step}
 use Rattle.element_tree.specs.Contents.{Content, nothing, text, aside, empty, element, size, nodes, roots}
 use Rattle.element_tree.proofs.ContentLaws.{bind_ok, else_ok, then_ok}
+use Rattle.element_tree.specs.declared.limits.TheConstants.{MAX_ELEMENTS, MAX_DEPTH}
+use Rattle.reading.specs.Reading.{read_all}
 
 abbrev is_shallow : Node → Type 0
-is_shallow n = n.depth < 32
+is_shallow n = n.depth < MAX_DEPTH
 
 abbrev is_inner : Node → Type 0
 is_inner n = 1 ≤ n.depth
 
 -- no element is too deep, all but the first lie in another, and they are not too many
 pub record IsGood (ns : List Node) : Type 0 where
-  pub shallow : All (λ n. n.depth < 32) ns
+  pub shallow : All (λ n. n.depth < MAX_DEPTH) ns
   pub inner : All (λ n. 1 ≤ n.depth) (drop 1 ns)
-  pub few : length ns ≤ 2000000
+  pub few : length ns ≤ MAX_ELEMENTS
 
 pub good_start : (at : ℕ) → IsGood []
 good_start at = record { shallow = All-nil is_shallow; inner = All-nil is_inner; few = omega arith }
@@ -36,12 +37,12 @@ inner_push [] n depth e h w = All-nil is_inner
 inner_push (m ∷ ns) n zero e h w = let k = ne_eqb (length (m ∷ ns)) 0 (omega arith) in absurd (cc k)
 inner_push (m ∷ ns) n (suc depth) e h w = All-push is_inner ns n w (omega (arith, e))
 
-good_push : (ns : List Node) (n : Node) (depth : ℕ) → n.depth ≡ depth → eqb depth 0 && not (eqb (length ns) 0) ≡ false → leb 32 depth ≡ false → leb 2000000 (length ns) ≡ false
+good_push : (ns : List Node) (n : Node) (depth : ℕ) → n.depth ≡ depth → eqb depth 0 && not (eqb (length ns) 0) ≡ false → leb MAX_DEPTH depth ≡ false → leb MAX_ELEMENTS (length ns) ≡ false
     → IsGood ns → IsGood (ns ++ n ∷ [])
 good_push ns n depth e h k m w = record {
-  shallow = All-push is_shallow ns n w.shallow (let lt = leb-false 32 depth k in omega (arith, e, lt));
+  shallow = All-push is_shallow ns n w.shallow (let lt = leb-false MAX_DEPTH depth k in omega (arith, e, lt));
   inner = inner_push ns n depth e h w.inner;
-  few = (let lt = leb-false 2000000 (length ns) m in omega (arith, lt, length-append ns (n ∷ [])));
+  few = (let lt = leb-false MAX_ELEMENTS (length ns) m in omega (arith, lt, length-append ns (n ∷ [])));
 }
 
 kept : (r : Result State MarkupFault) (v u : State) → r ≡ Ok v → r ≡ Ok u → IsGood v.nodes → IsGood u.nodes
@@ -52,10 +53,10 @@ good_opened b s u None e w = absurd cc
 good_opened b s u (Some tag) e w =
     let n : Node = record { place = s.at; len = length b; depth = length s.unended } in
     let next : State = record s { nodes = s.nodes ++ n ∷ []; unended = cond tag.1 s.unended (tag.0 ∷ s.unended) } in
-    let last : Result State MarkupFault = cond (leb 2000000 (length s.nodes)) (Err (TooMany s.at)) (Ok next) in
-    let k = else_ok (eqb (length s.unended) 0 && not (eqb (length s.nodes) 0)) (Malformed s.at) (cond (leb 32 (length s.unended)) (Err (TooDeep s.at)) last) u e in
-    let j = else_ok (leb 32 (length s.unended)) (TooDeep s.at) last u k.1 in
-    let i = else_ok (leb 2000000 (length s.nodes)) (TooMany s.at) (Ok next) u j.1 in
+    let last : Result State MarkupFault = cond (leb MAX_ELEMENTS (length s.nodes)) (Err (TooMany s.at)) (Ok next) in
+    let k = else_ok (eqb (length s.unended) 0 && not (eqb (length s.nodes) 0)) (Malformed s.at) (cond (leb MAX_DEPTH (length s.unended)) (Err (TooDeep s.at)) last) u e in
+    let j = else_ok (leb MAX_DEPTH (length s.unended)) (TooDeep s.at) last u k.1 in
+    let i = else_ok (leb MAX_ELEMENTS (length s.nodes)) (TooMany s.at) (Ok next) u j.1 in
     kept (Ok next) next u refl i.1 (good_push s.nodes n (length s.unended) refl k.0 j.0 i.0 w)
 
 good_closed : (b : List ℕ) (s u : State) (names : List (List ℕ)) → closed b s names ≡ Ok u → IsGood s.nodes → IsGood u.nodes
@@ -80,11 +81,11 @@ good_step t s u e w =
     let next : State = record k.0 { at = s.at + length t.1 } in
     kept (Ok next) next u refl k.2 (good_kind t.0 t.1 s k.0 k.1 w)
 
-pub good_all : (ts : List (Kind × List ℕ)) (s u : State) → run step ts s ≡ Ok u → IsGood s.nodes → IsGood u.nodes
-unfolding run
+pub good_all : (ts : List (Kind × List ℕ)) (s u : State) → read_all step ts s ≡ Ok u → IsGood s.nodes → IsGood u.nodes
+unfolding read_all
 good_all [] s u e w = kept (Ok s) s u refl e w
 good_all (t ∷ ts) s u e w =
-    let k = bind_ok (step t s) (run step ts) u e in
+    let k = bind_ok (step t s) (read_all step ts) u e in
     good_all ts k.0 u k.2 (good_step t s k.0 k.1 w)
 
 right_part : (xs ys : List Node) → All is_inner (xs ++ ys) → All is_inner ys

@@ -8,22 +8,22 @@ use Rattle.element_tree.specs.Trees.{siblings}
 next : (nodes : List Node) (i : ℕ) (d : Node) → i < length nodes → drop i nodes ≡ get_or nodes i d ∷ drop (i + 1) nodes
 next nodes i d lt = rw add-one (drop-cons nodes i d lt)
 
-pub sib_less : (nodes : List Node) (depth i : ℕ) (d : Node) → i < length nodes → (get_or nodes i d).depth < depth → siblings depth i (drop i nodes) ≡ []
+pub less_deep : (nodes : List Node) (depth i : ℕ) (d : Node) → i < length nodes → (get_or nodes i d).depth < depth → siblings depth i (drop i nodes) ≡ []
 unfolding siblings
-sib_less nodes depth i d lt h = rw (next nodes i d lt, lt-ltb (get_or nodes i d).depth depth h) refl
+less_deep nodes depth i d lt h = rw (next nodes i d lt, lt-ltb (get_or nodes i d).depth depth h) refl
 
-pub sib_found : (nodes : List Node) (depth i : ℕ) (d : Node) → i < length nodes → (get_or nodes i d).depth ≡ depth
+pub as_deep : (nodes : List Node) (depth i : ℕ) (d : Node) → i < length nodes → (get_or nodes i d).depth ≡ depth
     → siblings depth i (drop i nodes) ≡ i ∷ siblings depth (i + 1) (drop (i + 1) nodes)
 unfolding siblings
-sib_found nodes depth i d lt h =
+as_deep nodes depth i d lt h =
     rw (next nodes i d lt, le-ltb (get_or nodes i d).depth depth (omega arith), eq-eqb (get_or nodes i d).depth depth h) refl
 
-pub sib_past : (nodes : List Node) (depth i : ℕ) (d : Node) → i < length nodes → depth < (get_or nodes i d).depth
+pub deeper : (nodes : List Node) (depth i : ℕ) (d : Node) → i < length nodes → depth < (get_or nodes i d).depth
     → siblings depth i (drop i nodes) ≡ siblings depth (i + 1) (drop (i + 1) nodes)
 unfolding siblings
-sib_past nodes depth i d lt h =
+deeper nodes depth i d lt h =
     rw (next nodes i d lt, le-ltb (get_or nodes i d).depth depth (omega arith), ne_eqb (get_or nodes i d).depth depth (omega arith)) refl
 
-pub sib_end : (nodes : List Node) (depth i : ℕ) → length nodes ≤ i → siblings depth i (drop i nodes) ≡ []
+pub none_left : (nodes : List Node) (depth i : ℕ) → length nodes ≤ i → siblings depth i (drop i nodes) ≡ []
 unfolding siblings
-sib_end nodes depth i h = rw (drop_all i nodes h) refl
+none_left nodes depth i h = rw (drop_all i nodes h) refl

@@ -7,7 +7,7 @@ use Rattle.element_tree.specs.declared.node.Node.{Node}
 use Rattle.element_tree.specs.declared.fault.MarkupFault.{MarkupFault}
 use Rattle.element_tree.specs.declared.fault.MarkupFault.TheVariants.{Truncated}
 use Rattle.element_tree.specs.declared.token.Kind.{Kind}
-use Rattle.element_tree.specs.Pieces.{or_end, pieces_within, pieces, run}
+use Rattle.element_tree.specs.Pieces.{or_end, pieces_within, pieces}
 use Rattle.element_tree.specs.State.{State}
 use Rattle.element_tree.specs.Tokens.{begins, token_at, cut_token}
 use Rattle.element_tree.specs.Documents.{cut_fault, step, finish, read_on, markup}
@@ -16,6 +16,9 @@ use Rattle.element_tree.specs.Contents.{nodes as nodes_of}
 use Rattle.std.specs.List.{All}
 use Rattle.element_tree.proofs.Shapes.{good_start, good_all, one_root}
 use Rattle.element_tree.proofs.ContentLaws.{all_back, bind_ok, else_ok, then_ok}
+use Rattle.element_tree.specs.declared.limits.TheConstants.{MAX_ELEMENTS, MAX_DEPTH}
+use Rattle.reading.specs.Reading.{read_all}
+use Rattle.element_tree.specs.Bytes.{byte_order_mark}
 
 whole_of : (bytes : List ℕ) (o : Option (Kind × ℕ)) (x : (Kind × List ℕ) × List ℕ) → option_map (λ t. ((t.0, take t.1 bytes), drop t.1 bytes)) o ≡ Some x → x.0.1 ++ x.1 ≡ bytes
 whole_of bytes None x e = absurd cc
@@ -70,7 +73,7 @@ read_whole : (bytes : List ℕ) (at : ℕ) (nodes : List Node) → read_on bytes
 unfolding read_on
 read_whole bytes at nodes e =
     let start : State = record { at = at; nodes = []; unended = [] } in
-    let k = bind_ok (run step (pieces cut_token bytes).0 start) (finish (pieces cut_token bytes).1) nodes e in
+    let k = bind_ok (read_all step (pieces cut_token bytes).0 start) (finish (pieces cut_token bytes).1) nodes e in
     let f = finished (pieces cut_token bytes).1 k.0 nodes k.2 in
     let v = all_back (pieces cut_token bytes).0 start k.0 k.1 f.1 in
     let w = v.2 in
@@ -85,8 +88,8 @@ read_whole bytes at nodes e =
       shown = shown;
       blank = w.4;
       root = one_root w.0 at (subst (λ ns. All (λ n. 1 ≤ n.depth) (drop 1 ns)) (v.1 ∙ w.3) good.inner) (λ e. f.3 (v.1 ∙ w.3 ∙ e));
-      shallow = subst (λ ns. All (λ n. n.depth < 32) ns) f.2 good.shallow;
-      few = subst (λ ns. length ns ≤ 2000000) f.2 good.few;
+      shallow = subst (λ ns. All (λ n. n.depth < MAX_DEPTH) ns) f.2 good.shallow;
+      few = subst (λ ns. length ns ≤ MAX_ELEMENTS) f.2 good.few;
     }
   where
     pair_of : (p : List (Kind × List ℕ) × List ℕ) (ts : List (Kind × List ℕ)) → p.0 ≡ ts → p.1 ≡ [] → p ≡ (ts, [])
@@ -100,4 +103,4 @@ marked false bytes rest nodes e = read_whole bytes 0 nodes e
 -- an accepted document is the tokens of some content, joined, and the elements are its elements
 pub markup_whole : (bytes : List ℕ) (nodes : List Node) → markup bytes ≡ Ok nodes → IsDocument (mark_len bytes) (after_mark bytes) nodes
 unfolding markup
-markup_whole bytes nodes e = marked (begins bytes (239 ∷ 187 ∷ 191 ∷ [])) bytes (drop 3 bytes) nodes e
+markup_whole bytes nodes e = marked (begins bytes byte_order_mark) bytes (drop 3 bytes) nodes e

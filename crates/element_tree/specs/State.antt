@@ -2,7 +2,8 @@
 use Rattle.std.specs.Prelude.{ℕ, List}
 use Rattle.element_tree.specs.declared.node.Node.{Node}
 
--- the place of the next byte, the elements in document order, and the names of those that are open, the innermost first
+-- the place of the next byte, the elements in document order, and the names of those that are open,
+-- the innermost first
 pub record State : Type 0 where
   pub at : ℕ
   pub nodes : List Node

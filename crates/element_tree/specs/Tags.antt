@@ -1,19 +1,25 @@
--- The form of tags (CommonRoad XML 2020a profile, this project's own).
-use Rattle.std.specs.Prelude.{ℕ, Bool, true, false, ◌&&◌, not, List, [], ◌∷◌, length, take, drop, Option, Some, None, is_some, ◌==◌, nat_eq, nat_lt, codes, slice_index, if◌then◌else◌}
+-- The form of tags (a profile of CommonRoad XML, this project's own).
+use Rattle.std.specs.Prelude.{ℕ, Bool, true, false, ◌&&◌, not, List, [], ◌∷◌, length, take, drop}
+use Rattle.std.specs.Prelude.{Option, Some, None, is_some, ◌==◌, nat_eq, nat_lt, codes, slice_index}
+use Rattle.std.specs.Prelude.{if◌then◌else◌}
 use Rattle.std.specs.List.{position_or_len, list_any, starts_with}
 use Rattle.std.specs.Str.{bytes_eq}
-use Rattle.element_tree.specs.Bytes.{is_start, is_name_end, is_quote, is_space, is_open, skip_space}
+use Rattle.element_tree.specs.Bytes.{equals_sign, is_start, is_name_end, is_quote, is_space}
+use Rattle.element_tree.specs.Bytes.{is_open, skip_space}
 use Rattle.element_tree.specs.Pieces.{◌>>?◌, pieces}
 
 -- a name, and the bytes after it
 unfoldable pub name_at : List ℕ → Option (List ℕ × List ℕ)
 name_at bytes =
-    if is_start (slice_index bytes 0) then Some (take (position_or_len is_name_end bytes) bytes, drop (position_or_len is_name_end bytes) bytes)
-    else None
+    let len = position_or_len is_name_end bytes in
+    if is_start (slice_index bytes 0) then Some (take len bytes, drop len bytes) else None
 
 -- the bytes after this one byte
 unfoldable pub after_byte : ℕ → List ℕ → Option (List ℕ)
-after_byte b bytes = if length bytes == 0 then None else if slice_index bytes 0 == b then Some (drop 1 bytes) else None
+after_byte b bytes =
+    if length bytes == 0 then None
+    else if slice_index bytes 0 == b then Some (drop 1 bytes)
+    else None
 
 -- the bytes up to this quote, none of them `<`, and the bytes after the quote
 unfoldable pub value_in : ℕ → List ℕ → Option (List ℕ × List ℕ)
@@ -25,14 +31,16 @@ value_in quote bytes =
 
 -- a quoted value without `<`, and the bytes after it
 unfoldable pub value_at : List ℕ → Option (List ℕ × List ℕ)
-value_at bytes = if is_quote (slice_index bytes 0) then value_in (slice_index bytes 0) (drop 1 bytes) else None
+value_at bytes =
+    if is_quote (slice_index bytes 0) then value_in (slice_index bytes 0) (drop 1 bytes) else None
 
--- an attribute: white space, a name, optional white space, `=`, optional white space and a quoted value; and the bytes after it
+-- an attribute: white space, a name, optional white space, `=`, optional white space and a quoted
+-- value; and the bytes after it
 unfoldable pub attribute_at : List ℕ → Option ((List ℕ × List ℕ) × List ℕ)
 attribute_at bytes =
     if not (is_space (slice_index bytes 0)) then None
     else name_at (skip_space bytes) >>? λ name.
-    after_byte 61 (skip_space name.1) >>? λ rest.
+    after_byte equals_sign (skip_space name.1) >>? λ rest.
     value_at (skip_space rest) >>? λ value.
     Some ((name.0, value.0), value.1)
 

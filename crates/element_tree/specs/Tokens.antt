@@ -1,5 +1,6 @@
--- The tokens of a document (CommonRoad XML 2020a profile, this project's own).
-use Rattle.std.specs.Prelude.{ℕ, ◌+◌, Bool, not, List, length, take, drop, Option, Some, None, option_map, ◌==◌, nat_eq, codes, slice_index, if◌then◌else◌}
+-- The tokens of a document (a profile of CommonRoad XML, this project's own).
+use Rattle.std.specs.Prelude.{ℕ, ◌+◌, Bool, not, List, length, take, drop, Option, Some, None}
+use Rattle.std.specs.Prelude.{option_map, ◌==◌, nat_eq, codes, slice_index, if◌then◌else◌}
 use Rattle.std.specs.List.{position_or_len, starts_with}
 use Rattle.element_tree.specs.Bytes.{is_open, len_to, len_to_close}
 use Rattle.element_tree.specs.declared.token.Kind.{Kind}

@@ -1,18 +1,20 @@
 use preorder::NoMemory;
 use std::alloc::AllocFailed;
 
-/// Why a document is refused, with the byte place of the fault.
+/// Why a document is refused. A place is that of the token that has the fault, and where there is
+/// none left that of the end; it counts bytes from the first, a byte order mark included.
 #[derive(Clone, Copy, Debug, PartialEq, Eq)]
 pub enum MarkupFault {
-    /// A tag has not its form or its place, or text stands outside the root.
+    /// A start tag without its form or with an attribute twice, an end tag that is not that of the
+    /// innermost open element, a second root, or text other than white space outside the root.
     Malformed(usize),
-    /// The bytes end before a token or the root has ended.
+    /// The bytes end before a token or the root has ended, or hold no element.
     Truncated(usize),
-    /// An element lies in 32 others.
+    /// A start tag inside `MAX_DEPTH` open elements.
     TooDeep(usize),
-    /// There are 2,000,000 elements before this one.
+    /// A start tag after `MAX_ELEMENTS` elements.
     TooMany(usize),
-    /// A `<!` that begins no comment.
+    /// A `<!` that begins no comment: a declaration or a `CDATA` section.
     Unsupported(usize),
     /// Memory could not be had.
     NoMemory,

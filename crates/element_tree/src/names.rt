@@ -4,7 +4,7 @@ use preorder::NoMemory;
 use std::alloc::Global;
 use std::marker::Model;
 
-/// The names of the open elements, of which the innermost is taken first.
+// The names of the open elements, of which the innermost is taken first.
 #[derive(Drop)]
 pub struct Names<'a> {
     names: Vec<&'a [u8]>,
@@ -41,7 +41,8 @@ impl<'a> Names<'a> {
     }
 
     pub fn pop(&mut self) -> Option<&'a [u8]>
-        ensures { MatchOption result ((self.old ≡ []) × (self.new ≡ [])) (λ n. self.old ≡ n.now ∷ self.new) }
+        ensures { MatchOption result ((self.old ≡ []) × (self.new ≡ []))
+            (λ n. self.old ≡ n.now ∷ self.new) }
     {
         self.names.pop()
     }

@@ -1,22 +1,21 @@
-ghost use Rattle.std.specs.Prelude.{◌≡◌, ℕ, ◌+◌, ◌<◌, ◌≤◌, ◌^◌, ◌==◌, List, [], ◌∷◌, ◌++◌, length, drop, OnOk, IfOk, is_ok, if◌then◌else◌};
+ghost use Rattle.std.specs.Prelude.{◌≡◌, ℕ, ◌+◌, ◌<◌, ◌≤◌, ◌^◌, ◌==◌, List, [], ◌∷◌, ◌++◌, length};
+ghost use Rattle.std.specs.Prelude.{drop, OnOk, IfOk, is_ok, if◌then◌else◌};
 ghost use Rattle.std.specs.List.{list_all};
 ghost use Rattle.element_tree.specs.Bytes.{is_space};
 ghost use Rattle.reading.specs.Reading.{Gives};
-ghost use Rattle.element_tree.specs.Documents.{is_memory, text_step, end_step, start_step, step_of, step, cut_fault, finish, read_on, markup};
+ghost use Rattle.element_tree.specs.Documents.{is_memory, text_step, end_step, start_step, step_of};
+ghost use Rattle.element_tree.specs.Documents.{step, cut_fault, finish, read_on, markup};
 ghost use Rattle.element_tree.specs.Views.{state};
 ghost use Rattle.element_tree.specs.Within.{AreWithin};
 
 use crate::bytes::is_space;
 use crate::fault::MarkupFault;
+use crate::limits::{MAX_DEPTH, MAX_ELEMENTS};
 use crate::names::Names;
 use crate::node::Node;
 use crate::tag::{is_end_tag, start_tag};
 use crate::token::{Kind, cut_token};
 use std::alloc::Global;
-
-const MAX_DEPTH: usize = 32;
-
-const MAX_COUNT: usize = 2_000_000;
 
 #[derive(Drop)]
 pub struct Reader<'a> {
@@ -50,8 +49,10 @@ impl<'a> Reader<'a> {
     #[tactic(auto, unfolding(crate::specs::Documents::text_step), using(crate::proofs::WithinLaws::within_later))]
     fn text(&mut self, token: &[u8]) -> Result<(), MarkupFault>
         ensures at { self.new.at ≡ self.old.at }
-        ensures within { AreWithin self.old.at self.old.nodes.items → AreWithin (self.old.at + length token.now) self.new.nodes.items }
-        ensures exact { Gives is_memory (λ _. state self.new) result (text_step token.now (state self.old)) }
+        ensures within { AreWithin self.old.at self.old.nodes.items
+            → AreWithin (self.old.at + length token.now) self.new.nodes.items }
+        ensures exact { Gives is_memory (λ _. state self.new) result
+            (text_step token.now (state self.old)) }
     {
         if self.unended.len() == 0 && !is_blank(token) {
             return Err(MarkupFault::Malformed(self.at));
@@ -62,8 +63,10 @@ impl<'a> Reader<'a> {
     #[tactic(auto, unfolding(crate::specs::Documents::end_step), using(crate::proofs::WithinLaws::within_later))]
     fn end(&mut self, token: &[u8]) -> Result<(), MarkupFault>
         ensures at { self.new.at ≡ self.old.at }
-        ensures within { AreWithin self.old.at self.old.nodes.items → AreWithin (self.old.at + length token.now) self.new.nodes.items }
-        ensures exact { Gives is_memory (λ _. state self.new) result (end_step token.now (state self.old)) }
+        ensures within { AreWithin self.old.at self.old.nodes.items
+            → AreWithin (self.old.at + length token.now) self.new.nodes.items }
+        ensures exact { Gives is_memory (λ _. state self.new) result
+            (end_step token.now (state self.old)) }
     {
         match self.unended.pop() {
             Some(name) if is_end_tag(name, token) => Ok(()),
@@ -75,8 +78,10 @@ impl<'a> Reader<'a> {
     fn start(&mut self, token: &'a [u8]) -> Result<(), MarkupFault>
         requires { 1 ≤ length token.now }
         ensures at { self.new.at ≡ self.old.at }
-        ensures within { AreWithin self.old.at self.old.nodes.items → AreWithin (self.old.at + length token.now) self.new.nodes.items }
-        ensures exact { Gives is_memory (λ _. state self.new) result (start_step token.now (state self.old)) }
+        ensures within { AreWithin self.old.at self.old.nodes.items
+            → AreWithin (self.old.at + length token.now) self.new.nodes.items }
+        ensures exact { Gives is_memory (λ _. state self.new) result
+            (start_step token.now (state self.old)) }
     {
         let Some((name, empty)) = start_tag(self.alloc, token)? else {
             return Err(MarkupFault::Malformed(self.at));
@@ -88,7 +93,7 @@ impl<'a> Reader<'a> {
         if depth >= MAX_DEPTH {
             return Err(MarkupFault::TooDeep(self.at));
         }
-        if self.nodes.len() >= MAX_COUNT {
+        if self.nodes.len() >= MAX_ELEMENTS {
             return Err(MarkupFault::TooMany(self.at));
         }
         let node = Node {
@@ -107,8 +112,10 @@ impl<'a> Reader<'a> {
     fn step_of(&mut self, kind: Kind, token: &'a [u8]) -> Result<(), MarkupFault>
         requires { 1 ≤ length token.now }
         ensures at { self.new.at ≡ self.old.at }
-        ensures within { AreWithin self.old.at self.old.nodes.items → AreWithin (self.old.at + length token.now) self.new.nodes.items }
-        ensures exact { Gives is_memory (λ _. state self.new) result (step_of kind token.now (state self.old)) }
+        ensures within { AreWithin self.old.at self.old.nodes.items
+            → AreWithin (self.old.at + length token.now) self.new.nodes.items }
+        ensures exact { Gives is_memory (λ _. state self.new) result
+            (step_of kind token.now (state self.old)) }
     {
         match kind {
             Kind::Text => self.text(token),
@@ -122,8 +129,10 @@ impl<'a> Reader<'a> {
         requires long { 1 ≤ length token.now }
         requires room { self.old.at + length token.now < 2 ^ 64 }
         ensures at { OnOk result (self.new.at ≡ self.old.at + length token.now) }
-        ensures within { OnOk result (AreWithin self.old.at self.old.nodes.items → AreWithin self.new.at self.new.nodes.items) }
-        ensures exact { Gives is_memory (λ _. state self.new) result (step (kind, token.now) (state self.old)) }
+        ensures within { OnOk result (AreWithin self.old.at self.old.nodes.items
+            → AreWithin self.new.at self.new.nodes.items) }
+        ensures exact { Gives is_memory (λ _. state self.new) result
+            (step (kind, token.now) (state self.old)) }
     {
         self.step_of(kind, token)?;
         self.at += token.len();
@@ -160,13 +169,13 @@ fn read_on<'a>(reader: Reader<'a>, bytes: &'a [u8]) -> Result<Vec<Node>, MarkupF
     reader.finish(rest)
 }
 
-/// The elements of a document.
+// The elements of a document.
 #[tactic(auto, unfolding(crate::specs::Documents::markup), using(crate::proofs::WithinLaws::within_nil))]
 pub fn read_nodes(alloc: Global, bytes: &[u8]) -> Result<Vec<Node>, MarkupFault>
     ensures exact { Gives is_memory (λ v. v.items) result (markup bytes.now) }
     ensures within { IfOk result (λ v. AreWithin (length bytes.now) v.items) }
 {
-    let (at, rest) = if bytes.starts_with(&[0xEF, 0xBB, 0xBF]) {
+    let (at, rest) = if bytes.starts_with(b"\xEF\xBB\xBF") {
         (3, bytes.split_at(3).1)
     } else {
         (0, bytes)

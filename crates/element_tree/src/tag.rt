@@ -1,7 +1,10 @@
-ghost use Rattle.std.specs.Prelude.{◌≡◌, ℕ, ◌<◌, ◌≤◌, List, [], ◌∷◌, length, option_map, MatchOption, IfSome, IfOk, slice_index};
+ghost use Rattle.std.specs.Prelude.{◌≡◌, ℕ, ◌<◌, ◌≤◌, List, [], ◌∷◌, length, option_map};
+ghost use Rattle.std.specs.Prelude.{MatchOption, IfSome, IfOk, slice_index};
 ghost use Rattle.std.specs.List.{list_any};
 ghost use Rattle.element_tree.specs.Bytes.{is_space, is_start, is_open};
-ghost use Rattle.element_tree.specs.Tags.{name_at, after_byte, value_in, value_at, attribute_at, value_of, are_distinct, is_empty_at, start_tag, is_end_tag};
+ghost use Rattle.element_tree.specs.Tags.{name_at, after_byte, value_in, value_at, attribute_at};
+ghost use Rattle.element_tree.specs.Tags.{value_of, are_distinct, is_empty_at, start_tag};
+ghost use Rattle.element_tree.specs.Tags.{is_end_tag};
 ghost use Rattle.element_tree.specs.Pieces.{pieces};
 
 use crate::bytes::{is_quote, is_space, is_start, len_before, name_len, skip_space};
@@ -27,7 +30,7 @@ fn first_is_space(bytes: &[u8]) -> bool
     }
 }
 
-/// A name, and the bytes after it.
+// A name, and the bytes after it.
 #[tactic(auto, unfolding(crate::specs::Tags::name_at))]
 pub fn name_at(bytes: &[u8]) -> Option<(&[u8], &[u8])>
     ensures { option_map (λ x. (x.0.now, x.1.now)) result ≡ name_at bytes.now }
@@ -84,7 +87,8 @@ fn value_at(bytes: &[u8]) -> Option<(&[u8], &[u8])>
 
 #[tactic(auto, unfolding(crate::specs::Tags::attribute_at))]
 fn cut_attribute(bytes: &[u8]) -> Option<((&[u8], &[u8]), &[u8])>
-    ensures { option_map (λ x. ((x.0.0.now, x.0.1.now), x.1.now)) result ≡ attribute_at bytes.now }
+    ensures { option_map (λ x. ((x.0.0.now, x.0.1.now), x.1.now)) result
+        ≡ attribute_at bytes.now }
 {
     if !first_is_space(bytes) {
         return None;
@@ -95,17 +99,21 @@ fn cut_attribute(bytes: &[u8]) -> Option<((&[u8], &[u8]), &[u8])>
     Some(((name, value), rest))
 }
 
-/// The first attribute and the bytes after it.
+// The first attribute and the bytes after it.
 #[tactic(auto, using(crate::proofs::Attributes::attributes_at, crate::proofs::Attributes::attributes_none))]
 fn attribute_at(bytes: &[u8]) -> Option<((&[u8], &[u8]), &[u8])>
     ensures attributes { MatchOption result (pieces attribute_at bytes.now ≡ ([], bytes.now))
-        (λ x. pieces attribute_at bytes.now ≡ ((x.0.0.now, x.0.1.now) ∷ (pieces attribute_at x.1.now).0, (pieces attribute_at x.1.now).1)) }
+        (λ x. pieces attribute_at bytes.now
+        ≡ (
+          (x.0.0.now, x.0.1.now) ∷ (pieces attribute_at x.1.now).0,
+          (pieces attribute_at x.1.now).1,
+        )) }
     ensures shorter { IfSome result (λ x. length x.1.now < length bytes.now) }
 {
     cut_attribute(bytes)
 }
 
-/// What stands behind the attributes.
+// What stands behind the attributes.
 fn after_attributes(bytes: &[u8]) -> &[u8]
     ensures { result.now ≡ (pieces attribute_at bytes.now).1 }
 {
@@ -116,7 +124,7 @@ fn after_attributes(bytes: &[u8]) -> &[u8]
     rest
 }
 
-/// The value of the first attribute of this name.
+// The value of the first attribute of this name.
 #[tactic(auto, unfolding(crate::specs::Tags::value_of))]
 pub fn value_of<'a>(name: &[u8], bytes: &'a [u8]) -> Option<&'a [u8]>
     ensures { option_map (λ x. x.now) result ≡ value_of name.now (pieces attribute_at bytes.now).0 }
@@ -131,7 +139,7 @@ pub fn value_of<'a>(name: &[u8], bytes: &'a [u8]) -> Option<&'a [u8]>
     None
 }
 
-/// Whether no attribute name stands twice.
+// Whether no attribute name stands twice.
 #[tactic(auto, using(crate::proofs::Distinct::at_start, crate::proofs::Distinct::goes_on, crate::proofs::Distinct::stops))]
 fn are_distinct(alloc: Global, bytes: &[u8]) -> Result<bool, NoMemory>
     ensures { IfOk result (λ b. b ≡ are_distinct (pieces attribute_at bytes.now).0) }
@@ -147,7 +155,7 @@ fn are_distinct(alloc: Global, bytes: &[u8]) -> Result<bool, NoMemory>
     Ok(true)
 }
 
-/// The name of a start tag, and whether its element is empty.
+// The name of a start tag, and whether its element is empty.
 #[tactic(auto, unfolding(crate::specs::Tags::start_tag))]
 pub fn start_tag(alloc: Global, bytes: &[u8]) -> Result<Option<(&[u8], bool)>, NoMemory>
     requires { 1 ≤ length bytes.now }
@@ -180,7 +188,7 @@ fn is_empty_at(bytes: &[u8]) -> Option<bool>
     }
 }
 
-/// Whether these bytes are an end tag of this name.
+// Whether these bytes are an end tag of this name.
 #[tactic(auto, unfolding(crate::specs::Tags::is_end_tag))]
 pub fn is_end_tag(name: &[u8], bytes: &[u8]) -> bool
     ensures { result ≡ is_end_tag name.now bytes.now }

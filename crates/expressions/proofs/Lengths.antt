@@ -5,6 +5,7 @@ use Rattle.std.specs.List.{list_all}
 use Rattle.std.specs.Fmt.{decimal}
 use Rattle.std.proofs.lemmas.Bool.Decides.{nat_tests}
 use Rattle.std.proofs.lemmas.Fmt.{decimal_step, decimal_digit, length-decimal-le}
+use Rattle.preorder.specs.declared.limits.TheConstants.{MAX_NAME}
 use Rattle.preorder.specs.Name.{is_name, is_letter, is_name_byte}
 
 pub digits_more : (n : ℕ) → 10 ≤ n → n < 2 ^ 64 → length (decimal n) ≡ length (decimal (n / 10)) + 1
@@ -22,8 +23,8 @@ second true true false e = absurd cc
 second true false c e = absurd cc
 second false b c e = absurd cc
 
-pub name_short : (name : List ℕ) → is_name name ≡ true → length name ≤ 24
+pub name_short : (name : List ℕ) → is_name name ≡ true → length name ≤ MAX_NAME
 unfolding is_name
 name_short name e =
-    let k = second (nat_lt 0 (length name)) (nat_le (length name) 24) (is_letter (slice_index name 0) && list_all is_name_byte name) e in
+    let k = second (nat_lt 0 (length name)) (nat_le (length name) MAX_NAME) (is_letter (slice_index name 0) && list_all is_name_byte name) e in
     grind (arith, nat_tests, k)

@@ -1,5 +1,5 @@
 -- The lexemes of a text: its words, where signs stand apart. How they come together from those of its parts.
-use Rattle.std.proofs.Common.{◌≡◌, ℕ, ◌<◌, Bool, true, false, cond, List, [], ◌∷◌, ◌++◌, length, filter, ◌&&◌, refl, sym, ap, ◌∙◌, append_assoc, arith}
+use Rattle.std.proofs.Common.{◌≡◌, ℕ, ◌<◌, Bool, true, false, cond, List, [], ◌∷◌, ◌++◌, length, filter, refl, sym, ap, ◌∙◌, append_assoc, arith}
 use Rattle.std.specs.Prelude.{All}
 use Rattle.std.specs.List.{flat_map, slice_split, onto_first, list_all}
 use Rattle.std.proofs.lemmas.Bool.{ne_eqb}
@@ -11,6 +11,7 @@ use Rattle.std.proofs.lemmas.List.Elements.{filter-append, All-push}
 use Rattle.std.proofs.lemmas.List.Splits.{length-slice_split}
 use Rattle.reading.specs.Words.{words, is_blank, is_word}
 use Rattle.reading.proofs.Spelling.{words-last}
+use Rattle.reading.proofs.Truth.{both, refuted}
 use Rattle.expressions.specs.Tokens.{is_sign, apart, spread}
 
 onto_more : (b : ℕ) (parts more : List (List ℕ)) → 0 < length parts → onto_first b (parts ++ more) ≡ onto_first b parts ++ more
@@ -58,19 +59,10 @@ lexemes-sign x y b e f =
       one : is_blank b ≡ false → All (λ c. is_blank c ≡ false) (b ∷ [])
       one h = All-push (λ c. is_blank c ≡ false) [] b (λ k d lt. absurd (omega arith)) h
 
-pub both : (a b : Bool) → (a && b) ≡ true → (a ≡ true) × (b ≡ true)
-both true true e = (refl, refl)
-both true false e = absurd cc
-both false b e = absurd cc
-
 -- a byte of a name or of digits is no sign and no blank
 record Plain (b : ℕ) : Type 0 where
   sign : is_sign b ≡ false
   blank : is_blank b ≡ false
-
-pub refuted : (t : Bool) → (t ≡ true → ⊥) → t ≡ false
-refuted true h = absurd (h refl)
-refuted false h = refl
 
 plain : (b : ℕ) → is_name_byte b ≡ true → Plain b
 plain b e = record { sign = refuted (is_sign b) (λ s. grind (arith, nat_tests)); blank = refuted (is_blank b) (λ s. grind (arith, nat_tests)) }

@@ -13,7 +13,7 @@ use Rattle.expressions.specs.declared.token.Token.TheVariants.{Plus, Minus, Time
 use Rattle.expressions.specs.declared.tree.Argument.TheVariants.{Named, Number}
 use Rattle.expressions.specs.declared.tree.Expr.{Expr}
 use Rattle.expressions.specs.declared.tree.Expr.TheVariants.{Const, Feature, Neg, Abs, Add, Sub, Mul, Min, Max, If, Div}
-use Rattle.expressions.proofs.Lexemes.{both}
+use Rattle.reading.proofs.Truth.{both}
 use Rattle.reading.specs.Reading.{◌>>=◌}
 use Rattle.expressions.specs.Grammar.{is_reserved, Phrase, expr, term, factor, Is, one_term, sum, difference, one_factor, product, constant, negation, brackets, absolute, least, greatest, choice, quotient, plain, of_name, of_number}
 use Rattle.expressions.specs.Reading as r

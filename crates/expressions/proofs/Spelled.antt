@@ -10,6 +10,7 @@ use Rattle.std.proofs.lemmas.Bool.Decides.{nat_tests}
 use Rattle.std.proofs.lemmas.Bool.{ne_eqb}
 use Rattle.std.proofs.lemmas.Fmt.{decimal_is_IsNumeral, decimal_by_steps}
 use Rattle.std.proofs.lemmas.Slice.Eq.{bytes_eq-Decides}
+use Rattle.preorder.specs.declared.limits.TheConstants.{MAX_NAME}
 use Rattle.preorder.specs.Name.{is_name, is_name_byte, is_letter}
 use Rattle.reading.specs.Reading.{◌>>=◌, read_each}
 use Rattle.reading.specs.Words.{number_of, is_blank}
@@ -18,7 +19,8 @@ use Rattle.expressions.specs.declared.limits.TheConstants.{MAX_ARGUMENT_DIGITS}
 use Rattle.expressions.specs.declared.token.Token.{Token}
 use Rattle.expressions.specs.declared.token.Token.TheVariants.{Plus, Minus, Times, Open, Close, Comma, Digits, Word}
 use Rattle.expressions.specs.Tokens.{is_sign, digits, word, token}
-use Rattle.expressions.proofs.Lexemes.{lexemes, lexemes-nil, lexemes-blank, lexemes-sign, lexemes-word, both, refuted}
+use Rattle.expressions.proofs.Lexemes.{lexemes, lexemes-nil, lexemes-blank, lexemes-sign, lexemes-word}
+use Rattle.reading.proofs.Truth.{both, refuted}
 
 -- the tokens of a text
 pub record Lexes (text : List ℕ) (ts : List Token) : Type 0 where
@@ -82,10 +84,10 @@ differs p w v e f = refuted (bytes_eq w v) (λ s.
     let same : w ≡ v = (bytes_eq-Decides w v).0 s in
     let no : true ≡ false = sym e ∙ ap p same ∙ f in cc)
 
-record NameParts (name : List ℕ) : Type 0 where
-  some : 0 < length name
-  letter : is_letter (slice_index name 0) ≡ true
-  bytes : list_all is_name_byte name ≡ true
+pub record NameParts (name : List ℕ) : Type 0 where
+  pub some : 0 < length name
+  pub letter : is_letter (slice_index name 0) ≡ true
+  pub bytes : list_all is_name_byte name ≡ true
 
 four : (a b c d : Bool) → (a && (b && (c && d))) ≡ true → (a ≡ true) × (c ≡ true) × (d ≡ true)
 four true true true true e = (refl, refl, refl)
@@ -94,10 +96,10 @@ four true true false d e = absurd cc
 four true false c d e = absurd cc
 four false b c d e = absurd cc
 
-name_parts : (name : List ℕ) → is_name name ≡ true → NameParts name
+pub name_parts : (name : List ℕ) → is_name name ≡ true → NameParts name
 unfolding is_name
 name_parts name e =
-    let p = four (nat_lt 0 (length name)) (nat_le (length name) 24) (is_letter (slice_index name 0)) (list_all is_name_byte name) e in
+    let p = four (nat_lt 0 (length name)) (nat_le (length name) MAX_NAME) (is_letter (slice_index name 0)) (list_all is_name_byte name) e in
     record { some = grind (arith, nat_tests, p.0); letter = p.1; bytes = p.2 }
 
 name_token : (name : List ℕ) → is_name name ≡ true → token name ≡ Ok (Word name)
@@ -123,7 +125,7 @@ record AreDigits (ds : List ℕ) : Type 0 where
 one_digit : (n : ℕ) → n < 10 → AreDigits ((48 + n) ∷ [])
 one_digit n h = record { all = grind (arith, nat_tests); bytes = grind (arith, nat_tests); some = omega arith }
 
-all_more : (p : ℕ → Bool) (xs : List ℕ) (b : ℕ) → list_all p xs ≡ true → p b ≡ true → list_all p (xs ++ b ∷ []) ≡ true
+pub all_more : (p : ℕ → Bool) (xs : List ℕ) (b : ℕ) → list_all p xs ≡ true → p b ≡ true → list_all p (xs ++ b ∷ []) ≡ true
 all_more p [] b e f = rw f refl
 all_more p (x ∷ xs) b e f = let k = both (p x) (list_all p xs) e in rw (k.0, all_more p xs b k.1 f) refl
 

@@ -11,7 +11,7 @@ use Rattle.expressions.specs.declared.token.Token.{Token}
 use Rattle.expressions.specs.declared.tree.Expr.{Expr}
 use Rattle.expressions.specs.Tokens.{is_memory, tokens_of}
 use Rattle.expressions.specs.Grammar.{expr, Is, IsSpelled}
-use Rattle.expressions.specs.Reading.{expr_at, inside, whole, tree_of, expr_of}
+use Rattle.expressions.specs.Reading.{expr_at, inside, tree_of, expr_of, nothing_left}
 use Rattle.expressions.proofs.Complete.{complete, expr_ends}
 use Rattle.expressions.proofs.Sound.{Front, bound, sound}
 
@@ -19,7 +19,7 @@ record Done (x : Expr × List Token) (e : Expr) : Type 0 where
   none : x.1 ≡ []
   tree : x.0 ≡ e
 
-done : (x : Expr × List Token) (e : Expr) → whole x ≡ Ok e → Done x e
+done : (x : Expr × List Token) (e : Expr) → nothing_left x ≡ Ok e → Done x e
 done (a, []) e h = record { none = refl; tree = cc }
 done (a, t ∷ ts) e h = absurd cc
 
@@ -32,7 +32,7 @@ pub spelled : (ws : List (List ℕ)) (e : Expr) → expr_of ws ≡ Ok e → IsSp
 unfolding expr_of tree_of
 spelled ws e h =
     let t = bound (tokens_of ws) tree_of e h in
-    let x = bound (expr_at MAX_BRACKETS (inside MAX_BRACKETS) t.value) whole e t.then in
+    let x = bound (expr_at MAX_BRACKETS (inside MAX_BRACKETS) t.value) nothing_left e t.then in
     (t.value, t.was, all_of t.value x.value e (sound MAX_BRACKETS t.value x.value x.was) (done x.value e x.then))
 
 pub is_read : (ws : List (List ℕ)) (e : Expr) → IsSpelled ws e → expr_of ws ≡ Ok e

@@ -15,7 +15,7 @@ use Rattle.std.proofs.lemmas.Int.Digits.{digits_value-lt}
 use Rattle.std.proofs.Math.Nat.{pow-le-pow_right}
 use Rattle.expressions.specs.declared.limits.TheConstants.{MAX_BRACKETS, MAX_CONSTANT, MAX_DIVISOR, MAX_ARGUMENT_DIGITS}
 use Rattle.expressions.specs.Tokens.{token, word, digits, digits_from, spread, tokens_of}
-use Rattle.expressions.proofs.Lexemes.{both}
+use Rattle.reading.proofs.Truth.{both}
 use Rattle.expressions.specs.declared.fault.ExprFault.{ExprFault}
 use Rattle.expressions.specs.declared.token.Token.{Token}
 use Rattle.expressions.specs.declared.token.Token.TheVariants.{Plus, Minus, Times, Open, Close, Comma, Digits, Word}

@@ -18,7 +18,8 @@ use Rattle.expressions.specs.declared.tree.Expr.TheFolds.{fold-Expr, fold-roll-E
 use Rattle.expressions.specs.Tokens.{token, tokens_of}
 use Rattle.expressions.specs.Grammar.{expr, factor, Is, one_term, sum, difference, one_factor, product, constant, negation, brackets, absolute, least, greatest, choice, quotient, plain, of_name, of_number, is_reserved, IsTextOf}
 use Rattle.expressions.specs.Written.{call, listed, signed, written, written_step, nesting, nesting_step, is_from_to, is_feature, is_well_formed, well_formed_step}
-use Rattle.expressions.proofs.Lexemes.{lexemes_of_words, both}
+use Rattle.expressions.proofs.Lexemes.{lexemes_of_words}
+use Rattle.reading.proofs.Truth.{both}
 use Rattle.expressions.proofs.Spelled.{Lexes, no_text, at_blank, at_sign, name_lexes, decimal_lexes, plus_is, minus_is, times_is, open_is, close_is, comma_is}
 
 -- the tokens of the written form

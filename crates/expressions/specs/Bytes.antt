@@ -1,14 +1,8 @@
 -- The bytes of an expression's text that are no letters and digits.
 use Rattle.std.specs.Prelude.{ℕ}
 
-abbrev pub space : ℕ
-space = 32
-
 abbrev pub plus_sign : ℕ
 plus_sign = 43
-
-abbrev pub minus_sign : ℕ
-minus_sign = 45
 
 abbrev pub times_sign : ℕ
 times_sign = 42
@@ -18,6 +12,3 @@ open_bracket = 40
 
 abbrev pub close_bracket : ℕ
 close_bracket = 41
-
-abbrev pub comma : ℕ
-comma = 44

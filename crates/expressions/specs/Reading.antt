@@ -1,17 +1,22 @@
--- How a tree is read off the front of tokens, from the left, with the tokens after it. What is read so is what the grammar says, and nothing else: the law `reading_is_the_grammar`.
-use Rattle.std.specs.Prelude.{ℕ, zero, suc, ◌&&◌, List, [], ◌∷◌, length, Option, Some, None, Result, Ok, Err, pos, codes, nat_le, if◌then◌else◌}
+-- How a tree is read off the front of tokens, from the left, with the tokens after it. What is read
+-- so is what the grammar says, and nothing else: the law `reading_is_the_grammar`.
+use Rattle.std.specs.Prelude.{ℕ, zero, suc, ◌&&◌, List, [], ◌∷◌, length, Option, Some, None, Result}
+use Rattle.std.specs.Prelude.{Ok, Err, pos, codes, nat_le, if◌then◌else◌}
 use Rattle.std.specs.Str.{bytes_eq}
 use Rattle.reading.specs.Reading.{◌>>=◌}
 use Rattle.expressions.specs.Tokens.{tokens_of}
 use Rattle.expressions.specs.Grammar.{is_reserved}
-use Rattle.expressions.specs.declared.limits.TheConstants.{MAX_BRACKETS, MAX_CONSTANT, MAX_DIVISOR, MAX_ARGUMENT_DIGITS}
+use Rattle.expressions.specs.declared.limits.TheConstants.{MAX_BRACKETS, MAX_CONSTANT, MAX_DIVISOR}
+use Rattle.expressions.specs.declared.limits.TheConstants.{MAX_ARGUMENT_DIGITS}
 use Rattle.expressions.specs.declared.fault.ExprFault.{ExprFault}
 use Rattle.expressions.specs.declared.fault.ExprFault.TheVariants.{Syntax}
 use Rattle.expressions.specs.declared.token.Token.{Token}
-use Rattle.expressions.specs.declared.token.Token.TheVariants.{Plus, Minus, Times, Open, Close, Comma, Digits, Word}
+use Rattle.expressions.specs.declared.token.Token.TheVariants.{Plus, Minus, Times, Open, Close}
+use Rattle.expressions.specs.declared.token.Token.TheVariants.{Comma, Digits, Word}
 use Rattle.expressions.specs.declared.tree.Argument.TheVariants.{Named, Number}
 use Rattle.expressions.specs.declared.tree.Expr.{Expr}
-use Rattle.expressions.specs.declared.tree.Expr.TheVariants.{Const, Feature, Neg, Abs, Add, Sub, Mul, Min, Max, If, Div}
+use Rattle.expressions.specs.declared.tree.Expr.TheVariants.{Const, Feature, Neg, Abs, Add, Sub}
+use Rattle.expressions.specs.declared.tree.Expr.TheVariants.{Mul, Min, Max, If, Div}
 
 abbrev pub Read : Type 0
 Read = Result (Expr × List Token) ExprFault
@@ -40,13 +45,16 @@ constant value ts = if nat_le value MAX_CONSTANT then Ok (Const (pos value), ts)
 
 -- a divided by what stands before the closing bracket
 unfoldable pub divided : Expr → List Token → Read
-divided a (Digits value len ∷ Close ∷ ts) = if nat_le 1 value && nat_le value MAX_DIVISOR then Ok (Div a (pos value), ts) else Err Syntax
+divided a (Digits value len ∷ Close ∷ ts) =
+    if nat_le 1 value && nat_le value MAX_DIVISOR then Ok (Div a (pos value), ts) else Err Syntax
 divided a _ = Err Syntax
 
 -- a feature of what stands before the closing bracket
 unfoldable pub asked : List ℕ → List Token → Read
 asked name (Word about ∷ Close ∷ ts) = Ok (Feature name (Some (Named about)), ts)
-asked name (Digits value len ∷ Close ∷ ts) = if nat_le len MAX_ARGUMENT_DIGITS then Ok (Feature name (Some (Number value)), ts) else Err Syntax
+asked name (Digits value len ∷ Close ∷ ts) =
+    if nat_le len MAX_ARGUMENT_DIGITS then Ok (Feature name (Some (Number value)), ts)
+    else Err Syntax
 asked name _ = Err Syntax
 
 unfoldable pub feature_in : ℕ → List ℕ → List Token → Read
@@ -58,7 +66,8 @@ abbrev pub joined : Token → Expr → Expr → Expr
 joined Minus a b = Sub a b
 joined _ a b = Add a b
 
--- depth: how many brackets may be opened inside each other; nested: how an expression behind one of them is read
+-- depth: how many brackets may be opened inside each other; nested: how an expression behind one of
+-- them is read
 module _ (depth : ℕ) (nested : List Token → Read) where
   -- an expression and a comma
   unfoldable pub argument : List Token → Read
@@ -106,7 +115,8 @@ module _ (depth : ℕ) (nested : List Token → Read) where
   factor_at (Word name ∷ ts) = named name ts
   factor_at _ = Err Syntax
 
-  -- A product so far, times the factors that follow; each takes a token, so the count of tokens is turns enough.
+  -- A product so far, times the factors that follow; each takes a token, so the count of tokens is
+  -- turns enough.
   unfoldable pub products : ℕ → Expr → List Token → Read
   products (suc n) a (Times ∷ ts) = factor_at ts >>= λ b. products n (Mul a b.0) b.1
   products n a ts = Ok (a, ts)
@@ -129,13 +139,13 @@ inside zero ts = Err Syntax
 inside (suc d) ts = expr_at d (inside d) ts
 
 -- all tokens are read
-abbrev pub whole : Expr × List Token → Result Expr ExprFault
-whole (e, []) = Ok e
-whole (e, t ∷ ts) = Err Syntax
+abbrev pub nothing_left : Expr × List Token → Result Expr ExprFault
+nothing_left (e, []) = Ok e
+nothing_left (e, t ∷ ts) = Err Syntax
 
 -- the tree that all tokens have
 unfoldable pub tree_of : List Token → Result Expr ExprFault
-tree_of ts = expr_at MAX_BRACKETS (inside MAX_BRACKETS) ts >>= whole
+tree_of ts = expr_at MAX_BRACKETS (inside MAX_BRACKETS) ts >>= nothing_left
 
 -- the tree of the text that words spell
 unfoldable pub expr_of : List (List ℕ) → Result Expr ExprFault

@@ -1,16 +1,20 @@
 -- What the signs, digits and words of an expression's text are. This project's own.
-use Rattle.std.specs.Prelude.{ℕ, Bool, true, false, ◌||◌, ◌==◌, List, [], ◌∷◌, ◌++◌, length, min, Option, Some, None, Result, Ok, Err, if◌then◌else◌, codes}
+use Rattle.std.specs.Prelude.{ℕ, Bool, true, false, ◌||◌, ◌==◌, List, [], ◌∷◌, ◌++◌, length, min}
+use Rattle.std.specs.Prelude.{Option, Some, None, Result, Ok, Err, if◌then◌else◌, codes}
 use Rattle.std.specs.List.{flat_map}
 use Rattle.std.specs.Str.{bytes_eq}
 use Rattle.preorder.specs.Name.{is_name}
 use Rattle.reading.specs.Words.{words, number_of}
 use Rattle.reading.specs.Reading.{read_each}
 use Rattle.reading.specs.declared.words.TheConstants.{PAST}
-use Rattle.expressions.specs.Bytes.{space, plus_sign, minus_sign, times_sign, open_bracket, close_bracket, comma}
+use Rattle.expressions.specs.Bytes.{plus_sign, times_sign, open_bracket}
+use Rattle.reading.specs.Bytes.{space, minus_sign, comma}
+use Rattle.expressions.specs.Bytes.{close_bracket}
 use Rattle.expressions.specs.declared.fault.ExprFault.{ExprFault}
 use Rattle.expressions.specs.declared.fault.ExprFault.TheVariants.{Syntax, NoMemory}
 use Rattle.expressions.specs.declared.token.Token.{Token}
-use Rattle.expressions.specs.declared.token.Token.TheVariants.{Plus, Minus, Times, Open, Close, Comma, Digits, Word}
+use Rattle.expressions.specs.declared.token.Token.TheVariants.{Plus, Minus, Times, Open, Close}
+use Rattle.expressions.specs.declared.token.Token.TheVariants.{Comma, Digits, Word}
 
 -- the one fault that may come at any time
 abbrev pub is_memory : ExprFault → Bool
@@ -19,7 +23,9 @@ is_memory Syntax = false
 
 -- `+`, `-`, `*`, `(`, `)` or `,`
 abbrev pub is_sign : ℕ → Bool
-is_sign b = b == plus_sign || b == minus_sign || b == times_sign || b == open_bracket || b == close_bracket || b == comma
+is_sign b =
+    b == plus_sign || b == minus_sign || b == times_sign || b == open_bracket || b == close_bracket
+    || b == comma
 
 -- a sign between two blanks, and any other byte as it is
 abbrev pub apart : ℕ → List ℕ
@@ -39,7 +45,8 @@ digits w = digits_from (length w) (number_of w)
 unfoldable pub word : List ℕ → Result Token ExprFault
 word w = if is_name w then Ok (Word w) else digits w
 
--- A sign, a name, or digits, of which the value and the length count; the value of digits past all limits is one number.
+-- A sign, a name, or digits, of which the value and the length count; the value of digits past all
+-- limits is one number.
 unfoldable pub token : List ℕ → Result Token ExprFault
 token w =
     if bytes_eq w (codes "+") then Ok Plus

@@ -1,10 +1,14 @@
 -- The text that an expression is written as. This project's own.
-use Rattle.std.specs.Prelude.{ℕ, ℤ, pos, negsuc, ◌+◌, ◌^◌, max, Bool, false, not, ◌&&◌, List, [], ◌∷◌, ◌++◌, Option, Some, None, codes, nat_le, nat_lt}
+use Rattle.std.specs.Prelude.{ℕ, ℤ, pos, negsuc, ◌+◌, ◌^◌, max, Bool, false, not, ◌&&◌, List, []}
+use Rattle.std.specs.Prelude.{◌∷◌, ◌++◌, Option, Some, None, codes, nat_le, nat_lt}
 use Rattle.std.specs.Fmt.{decimal, signed_decimal}
 use Rattle.preorder.specs.Name.{is_name}
-use Rattle.expressions.specs.Bytes.{space, plus_sign, minus_sign, times_sign, open_bracket, close_bracket, comma}
+use Rattle.expressions.specs.Bytes.{plus_sign, times_sign, open_bracket}
+use Rattle.reading.specs.Bytes.{space, minus_sign, comma}
+use Rattle.expressions.specs.Bytes.{close_bracket}
 use Rattle.expressions.specs.Grammar.{is_reserved}
-use Rattle.expressions.specs.declared.limits.TheConstants.{MAX_CONSTANT, MAX_DIVISOR, MAX_ARGUMENT_DIGITS}
+use Rattle.expressions.specs.declared.limits.TheConstants.{MAX_CONSTANT, MAX_DIVISOR}
+use Rattle.expressions.specs.declared.limits.TheConstants.{MAX_ARGUMENT_DIGITS}
 use Rattle.expressions.specs.declared.tree.Argument.{Argument}
 use Rattle.expressions.specs.declared.tree.Argument.TheVariants.{Named, Number}
 use Rattle.expressions.specs.declared.tree.Expr.{Expr}
@@ -73,12 +77,14 @@ is_from_to low high (negsuc n) = false
 abbrev pub is_feature : List ℕ → Bool
 is_feature name = is_name name && not (is_reserved name)
 
--- What a book may hold: constants that are not below 0, divisors that are not below 1, features with names that are free, and numbers of few digits.
+-- What a book may hold: constants that are not below 0, divisors that are not below 1, features
+-- with names that are free, and numbers of few digits.
 abbrev pub well_formed_step : Expr-F Bool → Bool
 well_formed_step (Expr-F.Const n) = is_from_to 0 MAX_CONSTANT n
 well_formed_step (Expr-F.Feature name None) = is_feature name
 well_formed_step (Expr-F.Feature name (Some (Named about))) = is_feature name && is_name about
-well_formed_step (Expr-F.Feature name (Some (Number n))) = is_feature name && nat_lt n (10 ^ MAX_ARGUMENT_DIGITS)
+well_formed_step (Expr-F.Feature name (Some (Number n))) =
+    is_feature name && nat_lt n (10 ^ MAX_ARGUMENT_DIGITS)
 well_formed_step (Expr-F.Neg a) = a
 well_formed_step (Expr-F.Abs a) = a
 well_formed_step (Expr-F.Add a b) = a && b

@@ -7,8 +7,8 @@ use std::alloc::AllocError;
 /// Why a text is no expression.
 #[derive(Clone, Copy, Debug, PartialEq, Eq)]
 pub enum ExprFault {
-    /// It is the text of none: it has not the form, a number is past its limit, or too many brackets stand inside each
-    /// other.
+    /// It is the text of none: it has not the form, a number is past its limit, or too many
+    /// brackets stand inside each other.
     Syntax,
     /// Memory could not be had.
     NoMemory,

@@ -1,6 +1,8 @@
 //! Expressions over features: their trees, and their text both ways.
 //!
-//! The layer above uses that `read_expr` and `read_spelled` answer the tree whose text they are given by the grammar of `specs/Grammar.antt`, on both sides, and that the text which `push_expr` writes (`specs/Written.antt`) is read as the same tree.
+//! The layer above uses that `read_expr` and `read_spelled` answer the tree whose text they are
+//! given by the grammar of `specs/Grammar.antt`, on both sides, and that the text which `push_expr`
+//! writes (`specs/Written.antt`) is read as the same tree.
 #![tactic(auto)]
 
 mod copy;

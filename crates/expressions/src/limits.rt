@@ -1,7 +1,8 @@
 /// The most bytes that a line may have, with its comment and without its end.
 pub const MAX_LINE: usize = 1024;
 
-/// The most brackets that may stand inside each other, those of calls and of what features are asked about among them.
+/// The most brackets that may stand inside each other, those of calls and of what features are
+/// asked about among them.
 pub const MAX_BRACKETS: usize = 32;
 
 /// The largest constant.

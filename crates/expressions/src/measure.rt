@@ -58,7 +58,8 @@ fn name_len(name: &Name) -> usize
     name.as_slice().len()
 }
 
-/// How many bytes the written form has, where `MAX_LINE + 1` stands for all that are more than a line may have.
+/// How many bytes the written form has, where `MAX_LINE + 1` stands for all that are more than a
+/// line may have.
 pub fn written_len(expr: &Expr) -> usize
     ensures { result ≡ min (length (written expr.now)) (MAX_LINE + 1) }
 {
@@ -80,8 +81,8 @@ pub fn written_len(expr: &Expr) -> usize
     len.min(MAX_LINE + 1)
 }
 
-/// How many brackets of the written form stand inside each other, where `MAX_BRACKETS + 1` stands for all that are
-/// too many.
+/// How many brackets of the written form stand inside each other, where `MAX_BRACKETS + 1` stands
+/// for all that are too many.
 pub fn nesting(expr: &Expr) -> usize
     ensures { result ≡ min (nesting expr.now) (MAX_BRACKETS + 1) }
 {

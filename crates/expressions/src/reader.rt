@@ -1,10 +1,15 @@
-ghost use Rattle.std.specs.Prelude.{◌≡◌, ◌↔◌, ℕ, ◌<◌, ◌≤◌, List, length, map, option_map, IfOk, IfErr, IfSome, IsTrue};
+ghost use Rattle.std.specs.Prelude.{◌≡◌, ◌↔◌, ℕ, ◌<◌, ◌≤◌, List, length, map, option_map, IfOk};
+ghost use Rattle.std.specs.Prelude.{IfErr, IfSome, IsTrue};
 ghost use Rattle.std.specs.Bool.{OnFalse};
 ghost use Rattle.std.specs.Str.{bytes_eq};
 ghost use Rattle.reading.specs.Reading.{Gives};
 ghost use Rattle.expressions.specs.Tokens.{is_memory};
 ghost use Rattle.expressions.specs.Grammar.{is_reserved, IsSpelled, IsTextOf};
-ghost use Rattle.expressions.specs.Reading.{after_comma, after_close, after_times, after_sign, constant, divided, asked, feature_in, argument, last, absolute, least, greatest, choice, quotient, called, named, factor_at, term_at, expr_at, inside, joined, tree_of, expr_of};
+ghost use Rattle.expressions.specs.Reading.{after_comma, after_close, after_times, after_sign};
+ghost use Rattle.expressions.specs.Reading.{constant, divided, asked, feature_in, argument, last};
+ghost use Rattle.expressions.specs.Reading.{absolute, least, greatest, choice, quotient, called};
+ghost use Rattle.expressions.specs.Reading.{named, factor_at, term_at, expr_at, inside, joined};
+ghost use Rattle.expressions.specs.Reading.{tree_of, expr_of};
 ghost use Rattle.expressions.specs.Rules.{Reads};
 ghost use Rattle.expressions.specs.Written.{is_well_formed};
 ghost use Rattle.expressions.specs.declared.tree.Expr.{Expr};
@@ -108,7 +113,8 @@ fn asked(name: Name, tokens: &[Token]) -> Result<(Expr, &[Token]), ExprFault>
 
 #[tactic(auto, unfolding(crate::specs::Reading::feature_in))]
 fn feature_in(depth: usize, name: Name, tokens: &[Token]) -> Result<(Expr, &[Token]), ExprFault>
-    ensures exact { Gives is_memory (λ x. (x.0, x.1.now)) result (feature_in depth name tokens.now) }
+    ensures exact { Gives is_memory (λ x. (x.0, x.1.now)) result
+        (feature_in depth name tokens.now) }
     ensures shorter { IfOk result (λ x. length x.1.now < length tokens.now) }
 {
     if depth == 0 {
@@ -152,8 +158,8 @@ fn joined(alloc: Global, sign: Token, a: Expr, b: Expr) -> Result<Expr, AllocErr
     }
 }
 
-// How expressions are read where so many brackets may be opened. The rules take the reader of an expression behind a
-// bracket as a parameter, so that each is proved by itself.
+// How expressions are read where so many brackets may be opened. The rules take the reader of an
+// expression behind a bracket as a parameter, so that each is proved by itself.
 #[derive(Clone, Copy)]
 pub struct Rules<F> {
     alloc: Global,
@@ -165,7 +171,8 @@ impl<F: Fn(Global, usize, &[Token]) -> Result<(Expr, &[Token]), ExprFault>> Rule
     // An expression behind a bracket.
     fn inside<'a>(&self, tokens: &'a [Token]) -> Result<(Expr, &'a [Token]), ExprFault>
         requires { Reads self.now.depth (F.pre self.now.inside) (F.post self.now.inside) }
-        ensures exact { Gives is_memory (λ x. (x.0, x.1.now)) result (inside self.now.depth tokens.now) }
+        ensures exact { Gives is_memory (λ x. (x.0, x.1.now)) result
+            (inside self.now.depth tokens.now) }
         ensures shorter { IfOk result (λ x. length x.1.now < length tokens.now) }
     {
         (self.inside)(self.alloc, self.depth, tokens)
@@ -175,7 +182,8 @@ impl<F: Fn(Global, usize, &[Token]) -> Result<(Expr, &[Token]), ExprFault>> Rule
     #[tactic(auto, unfolding(crate::specs::Reading::argument))]
     fn argument<'a>(&self, tokens: &'a [Token]) -> Result<(Expr, &'a [Token]), ExprFault>
         requires { Reads self.now.depth (F.pre self.now.inside) (F.post self.now.inside) }
-        ensures exact { Gives is_memory (λ x. (x.0, x.1.now)) result (argument self.now.depth (inside self.now.depth) tokens.now) }
+        ensures exact { Gives is_memory (λ x. (x.0, x.1.now)) result
+            (argument self.now.depth (inside self.now.depth) tokens.now) }
         ensures shorter { IfOk result (λ x. length x.1.now < length tokens.now) }
     {
         let (expr, rest) = self.inside(tokens)?;
@@ -187,7 +195,8 @@ impl<F: Fn(Global, usize, &[Token]) -> Result<(Expr, &[Token]), ExprFault>> Rule
     #[tactic(auto, unfolding(crate::specs::Reading::last))]
     fn last<'a>(&self, tokens: &'a [Token]) -> Result<(Expr, &'a [Token]), ExprFault>
         requires { Reads self.now.depth (F.pre self.now.inside) (F.post self.now.inside) }
-        ensures exact { Gives is_memory (λ x. (x.0, x.1.now)) result (last self.now.depth (inside self.now.depth) tokens.now) }
+        ensures exact { Gives is_memory (λ x. (x.0, x.1.now)) result
+            (last self.now.depth (inside self.now.depth) tokens.now) }
         ensures shorter { IfOk result (λ x. length x.1.now < length tokens.now) }
     {
         let (expr, rest) = self.inside(tokens)?;
@@ -199,7 +208,8 @@ impl<F: Fn(Global, usize, &[Token]) -> Result<(Expr, &[Token]), ExprFault>> Rule
     #[tactic(auto, unfolding(crate::specs::Reading::absolute))]
     fn absolute<'a>(&self, tokens: &'a [Token]) -> Result<(Expr, &'a [Token]), ExprFault>
         requires { Reads self.now.depth (F.pre self.now.inside) (F.post self.now.inside) }
-        ensures exact { Gives is_memory (λ x. (x.0, x.1.now)) result (absolute self.now.depth (inside self.now.depth) tokens.now) }
+        ensures exact { Gives is_memory (λ x. (x.0, x.1.now)) result
+            (absolute self.now.depth (inside self.now.depth) tokens.now) }
         ensures shorter { IfOk result (λ x. length x.1.now < length tokens.now) }
     {
         let (a, rest) = self.last(tokens)?;
@@ -210,7 +220,8 @@ impl<F: Fn(Global, usize, &[Token]) -> Result<(Expr, &[Token]), ExprFault>> Rule
     #[tactic(auto, unfolding(crate::specs::Reading::least))]
     fn least<'a>(&self, tokens: &'a [Token]) -> Result<(Expr, &'a [Token]), ExprFault>
         requires { Reads self.now.depth (F.pre self.now.inside) (F.post self.now.inside) }
-        ensures exact { Gives is_memory (λ x. (x.0, x.1.now)) result (least self.now.depth (inside self.now.depth) tokens.now) }
+        ensures exact { Gives is_memory (λ x. (x.0, x.1.now)) result
+            (least self.now.depth (inside self.now.depth) tokens.now) }
         ensures shorter { IfOk result (λ x. length x.1.now < length tokens.now) }
     {
         let (a, rest) = self.argument(tokens)?;
@@ -223,7 +234,8 @@ impl<F: Fn(Global, usize, &[Token]) -> Result<(Expr, &[Token]), ExprFault>> Rule
     #[tactic(auto, unfolding(crate::specs::Reading::greatest))]
     fn greatest<'a>(&self, tokens: &'a [Token]) -> Result<(Expr, &'a [Token]), ExprFault>
         requires { Reads self.now.depth (F.pre self.now.inside) (F.post self.now.inside) }
-        ensures exact { Gives is_memory (λ x. (x.0, x.1.now)) result (greatest self.now.depth (inside self.now.depth) tokens.now) }
+        ensures exact { Gives is_memory (λ x. (x.0, x.1.now)) result
+            (greatest self.now.depth (inside self.now.depth) tokens.now) }
         ensures shorter { IfOk result (λ x. length x.1.now < length tokens.now) }
     {
         let (a, rest) = self.argument(tokens)?;
@@ -236,7 +248,8 @@ impl<F: Fn(Global, usize, &[Token]) -> Result<(Expr, &[Token]), ExprFault>> Rule
     #[tactic(auto, unfolding(crate::specs::Reading::choice))]
     fn choice<'a>(&self, tokens: &'a [Token]) -> Result<(Expr, &'a [Token]), ExprFault>
         requires { Reads self.now.depth (F.pre self.now.inside) (F.post self.now.inside) }
-        ensures exact { Gives is_memory (λ x. (x.0, x.1.now)) result (choice self.now.depth (inside self.now.depth) tokens.now) }
+        ensures exact { Gives is_memory (λ x. (x.0, x.1.now)) result
+            (choice self.now.depth (inside self.now.depth) tokens.now) }
         ensures shorter { IfOk result (λ x. length x.1.now < length tokens.now) }
     {
         let (a, rest) = self.argument(tokens)?;
@@ -250,7 +263,8 @@ impl<F: Fn(Global, usize, &[Token]) -> Result<(Expr, &[Token]), ExprFault>> Rule
     #[tactic(auto, unfolding(crate::specs::Reading::quotient))]
     fn quotient<'a>(&self, tokens: &'a [Token]) -> Result<(Expr, &'a [Token]), ExprFault>
         requires { Reads self.now.depth (F.pre self.now.inside) (F.post self.now.inside) }
-        ensures exact { Gives is_memory (λ x. (x.0, x.1.now)) result (quotient self.now.depth (inside self.now.depth) tokens.now) }
+        ensures exact { Gives is_memory (λ x. (x.0, x.1.now)) result
+            (quotient self.now.depth (inside self.now.depth) tokens.now) }
         ensures shorter { IfOk result (λ x. length x.1.now < length tokens.now) }
     {
         let (a, rest) = self.argument(tokens)?;
@@ -261,7 +275,8 @@ impl<F: Fn(Global, usize, &[Token]) -> Result<(Expr, &[Token]), ExprFault>> Rule
     #[tactic(auto, unfolding(crate::specs::Reading::called))]
     fn called<'a>(&self, name: Name, tokens: &'a [Token]) -> Result<(Expr, &'a [Token]), ExprFault>
         requires { Reads self.now.depth (F.pre self.now.inside) (F.post self.now.inside) }
-        ensures exact { Gives is_memory (λ x. (x.0, x.1.now)) result (called self.now.depth (inside self.now.depth) name tokens.now) }
+        ensures exact { Gives is_memory (λ x. (x.0, x.1.now)) result
+            (called self.now.depth (inside self.now.depth) name tokens.now) }
         ensures shorter { IfOk result (λ x. length x.1.now < length tokens.now) }
     {
         let word = name.as_slice();
@@ -284,7 +299,8 @@ impl<F: Fn(Global, usize, &[Token]) -> Result<(Expr, &[Token]), ExprFault>> Rule
     #[tactic(auto, unfolding(crate::specs::Reading::named))]
     fn named<'a>(&self, name: Name, tokens: &'a [Token]) -> Result<(Expr, &'a [Token]), ExprFault>
         requires { Reads self.now.depth (F.pre self.now.inside) (F.post self.now.inside) }
-        ensures exact { Gives is_memory (λ x. (x.0, x.1.now)) result (named self.now.depth (inside self.now.depth) name tokens.now) }
+        ensures exact { Gives is_memory (λ x. (x.0, x.1.now)) result
+            (named self.now.depth (inside self.now.depth) name tokens.now) }
         ensures shorter { IfOk result (λ x. length x.1.now ≤ length tokens.now) }
     {
         match tokens {
@@ -297,7 +313,8 @@ impl<F: Fn(Global, usize, &[Token]) -> Result<(Expr, &[Token]), ExprFault>> Rule
     #[tactic(auto, unfolding(crate::specs::Reading::factor_at))]
     fn factor<'a>(&self, tokens: &'a [Token]) -> Result<(Expr, &'a [Token]), ExprFault>
         requires { Reads self.now.depth (F.pre self.now.inside) (F.post self.now.inside) }
-        ensures exact { Gives is_memory (λ x. (x.0, x.1.now)) result (factor_at self.now.depth (inside self.now.depth) tokens.now) }
+        ensures exact { Gives is_memory (λ x. (x.0, x.1.now)) result
+            (factor_at self.now.depth (inside self.now.depth) tokens.now) }
         ensures shorter { IfOk result (λ x. length x.1.now < length tokens.now) }
     {
         match tokens {
@@ -315,7 +332,8 @@ impl<F: Fn(Global, usize, &[Token]) -> Result<(Expr, &[Token]), ExprFault>> Rule
     // Factors with `*` between them.
     fn term<'a>(&self, tokens: &'a [Token]) -> Result<(Expr, &'a [Token]), ExprFault>
         requires { Reads self.now.depth (F.pre self.now.inside) (F.post self.now.inside) }
-        ensures exact { Gives is_memory (λ x. (x.0, x.1.now)) result (term_at self.now.depth (inside self.now.depth) tokens.now) }
+        ensures exact { Gives is_memory (λ x. (x.0, x.1.now)) result
+            (term_at self.now.depth (inside self.now.depth) tokens.now) }
         ensures shorter { IfOk result (λ x. length x.1.now < length tokens.now) }
     {
         let (mut product, mut rest) = self.factor(tokens)?;
@@ -330,7 +348,8 @@ impl<F: Fn(Global, usize, &[Token]) -> Result<(Expr, &[Token]), ExprFault>> Rule
     // Terms with `+` and `-` between them.
     fn expr<'a>(&self, tokens: &'a [Token]) -> Result<(Expr, &'a [Token]), ExprFault>
         requires { Reads self.now.depth (F.pre self.now.inside) (F.post self.now.inside) }
-        ensures exact { Gives is_memory (λ x. (x.0, x.1.now)) result (expr_at self.now.depth (inside self.now.depth) tokens.now) }
+        ensures exact { Gives is_memory (λ x. (x.0, x.1.now)) result
+            (expr_at self.now.depth (inside self.now.depth) tokens.now) }
         ensures shorter { IfOk result (λ x. length x.1.now < length tokens.now) }
     {
         let (mut sum, mut rest) = self.term(tokens)?;
@@ -388,13 +407,15 @@ fn expr_of(alloc: Global, words: &[&[u8]]) -> Result<Expr, ExprFault>
 pub fn read_spelled(alloc: Global, words: &[&[u8]]) -> Result<Expr, ExprFault>
     ensures exact { Gives is_memory (λ e. e) result (expr_of (map (λ w. w.now) words.now)) }
     ensures text { IfOk result (IsSpelled (map (λ w. w.now) words.now)) }
-    ensures each_text { (e : Expr) → IsSpelled (map (λ w. w.now) words.now) e → Gives is_memory (λ x. x) result (Ok e) }
+    ensures each_text { (e : Expr) → IsSpelled (map (λ w. w.now) words.now) e
+        → Gives is_memory (λ x. x) result (Ok e) }
     ensures well_formed { IfOk result (λ e. IsTrue (is_well_formed e)) }
 {
     expr_of(alloc, words)
 }
 
-/// The expression whose text this is, of at most `MAX_LINE` bytes. `Syntax` where it is the text of none.
+/// The expression whose text this is, of at most `MAX_LINE` bytes. `Syntax` where it is the text of
+/// none.
 pub fn read_expr(alloc: Global, text: &[u8]) -> Result<Expr, ExprFault>
     requires { length text.now ≤ MAX_LINE }
 
@@ -407,13 +428,15 @@ pub fn read_expr(alloc: Global, text: &[u8]) -> Result<Expr, ExprFault>
     ensures well_formed { IfOk result (λ e. IsTrue (is_well_formed e)) }
 
     // A text is refused where no tree has it.
-    ensures syntax { IfErr result (λ f. OnFalse (is_memory f) ((e : Expr) → ¬ IsTextOf text.now e)) }
+    ensures syntax { IfErr result (λ f. OnFalse (is_memory f)
+        ((e : Expr) → ¬ IsTextOf text.now e)) }
 {
     let words = words_of(alloc, text)?;
     read_spelled(alloc, words.as_slice())
 }
 
-/// What is read of words is the tree whose text they spell by the grammar, and nothing else is read.
+/// What is read of words is the tree whose text they spell by the grammar, and nothing else is
+/// read.
 pub fn reading_is_the_grammar()
     ensures { (words : List (List ℕ)) (e : Expr) → (expr_of words ≡ Ok e) ↔ IsSpelled words e }
 {}

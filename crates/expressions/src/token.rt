@@ -1,7 +1,8 @@
 ghost use Rattle.std.specs.Prelude.{◌≡◌, ◌++◌, ◌∷◌, [], IfOk, OnOk, map};
 ghost use Rattle.std.specs.List.{flat_map};
 ghost use Rattle.reading.specs.Reading.{Gives, read_each};
-ghost use Rattle.expressions.specs.Tokens.{is_memory, is_sign, apart, spread, digits, word, token, tokens_of};
+ghost use Rattle.expressions.specs.Tokens.{is_memory, is_sign, apart, spread, digits, word, token};
+ghost use Rattle.expressions.specs.Tokens.{tokens_of};
 
 use crate::fault::ExprFault;
 use preorder::{List, Name};

@@ -4,6 +4,7 @@ use sqlite_items::Boxed;
 /// What a feature is asked about.
 #[derive(Clone, Copy)]
 pub enum Argument {
+    /// A name, as that of a maneuver.
     Named(Name),
     /// A number of at most `MAX_ARGUMENT_DIGITS` digits.
     Number(u64),
@@ -16,12 +17,19 @@ pub enum Expr {
     Const(i64),
     /// What is measured at a step, by the name of a feature.
     Feature(Name, Option<Argument>),
+    /// 0 less it.
     Neg(Boxed<Expr>),
+    /// Its size.
     Abs(Boxed<Expr>),
+    /// Their sum.
     Add(Boxed<Expr>, Boxed<Expr>),
+    /// The first less the second.
     Sub(Boxed<Expr>, Boxed<Expr>),
+    /// Their product.
     Mul(Boxed<Expr>, Boxed<Expr>),
+    /// The lesser of them.
     Min(Boxed<Expr>, Boxed<Expr>),
+    /// The greater of them.
     Max(Boxed<Expr>, Boxed<Expr>),
     /// The second where the first is above 0, else the third.
     If(Boxed<Expr>, Boxed<Expr>, Boxed<Expr>),

@@ -1,6 +1,7 @@
 ghost use Rattle.std.specs.Prelude.{◌≡◌, ◌++◌, ◌∷◌, [], ◌≤◌, OnOk, IsTrue};
 ghost use Rattle.std.specs.Fmt.{signed_decimal, decimal};
-ghost use Rattle.expressions.specs.Written.{written, written_argument, written_feature, nesting, is_well_formed};
+ghost use Rattle.expressions.specs.Written.{written, written_argument, written_feature, nesting};
+ghost use Rattle.expressions.specs.Written.{is_well_formed};
 ghost use Rattle.expressions.specs.Grammar.{IsTextOf};
 ghost use Rattle.expressions.specs.declared.tree.Expr.{Expr};
 

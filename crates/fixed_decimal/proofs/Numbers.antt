@@ -1,12 +1,11 @@
 -- Digits as one number, cut off and extended.
-use Rattle.std.proofs.Common.{◌≡◌, ℕ, zero, suc, ◌+◌, ◌-◌, ◌*◌, ◌/◌, ◌^◌, ◌<◌, ◌≤◌, List, [], ◌∷◌, length, get_or, take, drop, refl, sym, ap, ◌∙◌, arith, neg_ℤ, unsigned_abs, ◌<ℤ◌, ◌≤ℤ◌, mul-le-mul, ℤ, pos, negsuc, drop-cons, length-drop}
+use Rattle.std.proofs.Common.{◌≡◌, ℕ, zero, suc, ◌+◌, ◌-◌, ◌*◌, ◌/◌, ◌^◌, ◌<◌, ◌≤◌, List, [], ◌∷◌, length, get_or, take, drop, refl, sym, ap, ◌∙◌, arith, neg_ℤ, mul-le-mul, pos, negsuc, drop-cons, length-drop}
 use Rattle.std.specs.List.{fold}
 use Rattle.std.proofs.lemmas.List.{take-append-drop, take-take}
 use Rattle.std.proofs.lemmas.List.Elements.{All-head, All-tail, All-drop}
 use Rattle.std.proofs.lemmas.List.Sums.{fold_more, fold-append}
 use Rattle.std.proofs.lemmas.Nat.{div-mul-add}
 use Rattle.std.proofs.Math.Nat.{pow-suc, pow-le-pow_right}
-use Rattle.std.proofs.lemmas.Int.{ints}
 use Rattle.std.proofs.lemmas.Bool.{cases_lt}
 use Rattle.std.proofs.Common.{inl, inr}
 use Rattle.std.specs.Char.{IsAsciiDigit}
@@ -151,7 +150,3 @@ cut_high ds c (suc m) h p k large = cut_up ds c m h k large
 pub cut_least : (ds : List ℕ) (c last : ℕ) → IsDigits ds → 0 < last → c + last ≡ length ds → number (take c ds) ≤ scaled (number ds) (neg_ℤ (pos last))
 cut_least ds c last h p k =
     elim (cases_lt (get_or ds c 0 - 48) 5) [ inl small ↦ omega (arith, cut_low ds c last h p k small) | inr large ↦ omega (arith, cut_high ds c last h p k large) ]
-
-pub size_back : (z : ℤ) → ((pos 0 ≤ℤ z) → pos (unsigned_abs z) ≡ z) × (z <ℤ pos 0 → neg_ℤ (pos (unsigned_abs z)) ≡ z)
-size_back (pos n) = ((λ h. refl), (λ h. absurd (omega (arith, ints))))
-size_back (negsuc n) = ((λ h. absurd (omega (arith, ints))), (λ h. refl))

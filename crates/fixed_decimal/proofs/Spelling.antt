@@ -8,6 +8,7 @@ use Rattle.fixed_decimal.specs.Decimals.{Decimal, Spells, IsDigits, IsFraction, 
 use Rattle.fixed_decimal.specs.Parts.{IsShort}
 use Rattle.fixed_decimal.specs.Reading.{first_digits, after_digits, is_negative, unsigned, fraction, after_fraction, is_exponent, after_whole, exponent_part, decimal_of, lacks_digits, is_decimal}
 use Rattle.fixed_decimal.proofs.Scanning.{digits_first, digits_split, sign_found, fraction_found, exponent_found, sign_spelled, digits_bare, point_bare, digits_spelled, after_spelled, exponent_starts, fraction_starts, fraction_spelled, exponent_spelled}
+use Rattle.fixed_decimal.specs.declared.limits.TheConstants.{MAX_BYTES}
 
 some_digit : (before after : List ℕ) → not (lacks_digits before after) ≡ true → before ++ after ≢ []
 some_digit [] [] h e = cc
@@ -47,15 +48,15 @@ bare (b ∷ whole) fraction p x point h some = digits_bare b (whole ++ (p ++ x))
 pub complete : (text : List ℕ) (d : Decimal) → Spells text d → (is_decimal text ≡ true) × (decimal_of text ≡ d)
 unfolding is_decimal decimal_of after_whole exponent_part
 complete text d s =
-    let parts = s.parts ∙ append_assoc d.whole s.point_part s.exponent_part in
+    let parts = s.parts ∙ append_assoc d.whole_part s.point_part s.exponent_part in
     let starts = exponent_starts d.exponent_negative d.exponent s.exponent_part s.exponent in
-    let sign = sign_spelled d.negative s.unsigned text s.sign (rw parts (bare d.whole d.fraction s.point_part s.exponent_part s.point s.whole_digits s.some_digit)) in
+    let sign = sign_spelled d.negative s.unsigned text s.sign (rw parts (bare d.whole_part d.fraction s.point_part s.exponent_part s.point s.whole_digits s.some_digit)) in
     let no_digit = fraction_starts d.fraction s.point_part s.exponent_part s.point starts.0 in
-    let front : first_digits (unsigned text) ≡ d.whole = rw (sign.1, parts) (digits_spelled d.whole (s.point_part ++ s.exponent_part) s.whole_digits no_digit) in
-    let behind : after_digits (unsigned text) ≡ s.point_part ++ s.exponent_part = rw (sign.1, parts) (after_spelled d.whole (s.point_part ++ s.exponent_part) s.whole_digits no_digit) in
+    let front : first_digits (unsigned text) ≡ d.whole_part = rw (sign.1, parts) (digits_spelled d.whole_part (s.point_part ++ s.exponent_part) s.whole_digits no_digit) in
+    let behind : after_digits (unsigned text) ≡ s.point_part ++ s.exponent_part = rw (sign.1, parts) (after_spelled d.whole_part (s.point_part ++ s.exponent_part) s.whole_digits no_digit) in
     let f = fraction_spelled d.fraction s.point_part s.exponent_part s.point s.fraction_digits starts in
     let e = exponent_spelled d.exponent_negative d.exponent s.exponent_part s.exponent s.exponent_digits in
-    (rw (front, behind, f.0, f.1, e.0, no_lack d.whole d.fraction s.some_digit) refl, rw (sign.0, front, behind, f.0, f.1, e.1, e.2) refl)
+    (rw (front, behind, f.0, f.1, e.0, no_lack d.whole_part d.fraction s.some_digit) refl, rw (sign.0, front, behind, f.0, f.1, e.1, e.2) refl)
 
 -- the parts of a text are no longer than the text
 sign_longer : (negative : Bool) (rest text : List ℕ) → IsSigned negative rest text → length rest ≤ length text
@@ -73,17 +74,17 @@ exponent_longer negative digits text (inr w) =
     let s = sign_longer negative digits w.signed w.sign in
     elim w.letter [ inl small ↦ rw small (omega (arith, s)) | inr capital ↦ rw capital (omega (arith, s)) ]
 
-pub short : (text : List ℕ) → is_decimal text ≡ true → length text ≤ 64 → IsShort (decimal_of text)
+pub short : (text : List ℕ) → is_decimal text ≡ true → length text ≤ MAX_BYTES → IsShort (decimal_of text)
 short text h limit =
     let s = sound text h in
     let d = decimal_of text in
     let all = sign_longer d.negative s.unsigned text s.sign in
-    let sum = ap length (s.parts ∙ append_assoc d.whole s.point_part s.exponent_part) ∙ length-append d.whole (s.point_part ++ s.exponent_part) in
+    let sum = ap length (s.parts ∙ append_assoc d.whole_part s.point_part s.exponent_part) ∙ length-append d.whole_part (s.point_part ++ s.exponent_part) in
     let rest = length-append s.point_part s.exponent_part in
     let f = fraction_longer d.fraction s.point_part s.point in
     let e = exponent_longer d.exponent_negative d.exponent s.exponent_part s.exponent in
     record {
-      whole = s.whole_digits;
+      whole_part = s.whole_digits;
       fraction = s.fraction_digits;
       exponent = s.exponent_digits;
       digits = omega (arith, all, sum, rest, f);

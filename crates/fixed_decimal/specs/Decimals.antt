@@ -5,7 +5,7 @@ use Rattle.std.specs.Char.{IsAsciiDigit}
 -- the parts of a decimal, where digits are bytes from '0' to '9'; no exponent is one of no digits
 pub record Decimal : Type 0 where
   pub negative : Bool
-  pub whole : List ℕ
+  pub whole_part : List ℕ
   pub fraction : List ℕ
   pub exponent_negative : Bool
   pub exponent : List ℕ
@@ -41,10 +41,10 @@ pub record Spells (text : List ℕ) (d : Decimal) : Type 0 where
   pub point_part : List ℕ
   pub exponent_part : List ℕ
   pub sign : IsSigned d.negative unsigned text
-  pub parts : unsigned ≡ d.whole ++ point_part ++ exponent_part
+  pub parts : unsigned ≡ d.whole_part ++ point_part ++ exponent_part
   pub point : IsFraction d.fraction point_part
   pub exponent : IsExponent d.exponent_negative d.exponent exponent_part
-  pub whole_digits : IsDigits d.whole
+  pub whole_digits : IsDigits d.whole_part
   pub fraction_digits : IsDigits d.fraction
   pub exponent_digits : IsDigits d.exponent
-  pub some_digit : d.whole ++ d.fraction ≢ []
+  pub some_digit : d.whole_part ++ d.fraction ≢ []

@@ -1,9 +1,12 @@
-ghost use Rattle.std.specs.Prelude.{◌≡◌, ◌<◌, ◌≤◌, ◌-◌, ◌*◌, ◌^◌, pos, neg_ℤ, length, take, slice_index};
+ghost use Rattle.std.specs.Prelude.{◌≡◌, ◌<◌, ◌≤◌, ◌-◌, ◌*◌, ◌^◌, pos, neg_ℤ};
+ghost use Rattle.std.specs.Prelude.{length, take, slice_index};
+ghost use Rattle.fixed_decimal.specs.Bytes.{zero_digit};
 ghost use Rattle.fixed_decimal.specs.Decimals.{IsDigits};
 ghost use Rattle.fixed_decimal.specs.Parts.{all_digits, IsNumeral};
 ghost use Rattle.fixed_decimal.specs.Rounding.{number, scaled, IsCapped};
+ghost use Rattle.fixed_decimal.specs.declared.limits.TheConstants.{MAX_BYTES};
 
-const LIMIT: u64 = 1_000_000_000_000_000_000;
+use crate::limits::MAX_VALUE;
 
 // Digits in two pieces, one behind the other.
 #[derive(Clone, Copy)]
@@ -14,15 +17,15 @@ pub struct Digits<'a> {
 
 // The value with this many zeros behind it.
 fn with_zeros(value: u64, zeros: usize) -> Option<u64>
-    requires { value ≤ 10 ^ 18 }
-    ensures { IsCapped (10 ^ 18) (value * 10 ^ zeros) result }
+    requires { value ≤ MAX_VALUE }
+    ensures { IsCapped MAX_VALUE (value * 10 ^ zeros) result }
 {
     if value == 0 {
         return Some(0);
     }
     let mut shifted = value;
     for _i in 0..zeros {
-        if shifted > LIMIT / 10 {
+        if shifted > MAX_VALUE / 10 {
             return None;
         }
         shifted *= 10;
@@ -43,7 +46,7 @@ impl Digits<'_> {
     fn at(self, index: usize) -> u8
         requires index { index < length (all_digits self) }
         requires digits { IsNumeral self }
-        ensures value { result ≡ slice_index (all_digits self.entry) index - 48 }
+        ensures value { result ≡ slice_index (all_digits self.entry) index - zero_digit }
         ensures small { result < 10 }
     {
         if index < self.front.len() {
@@ -58,12 +61,12 @@ impl Digits<'_> {
     fn leading(self, count: usize) -> Option<u64>
         requires count { count ≤ length (all_digits self) }
         requires digits { IsNumeral self }
-        ensures { IsCapped (10 ^ 18) (number (take count (all_digits self.entry))) result }
+        ensures { IsCapped MAX_VALUE (number (take count (all_digits self.entry))) result }
     {
         let mut value: u64 = 0;
         for i in 0..count {
             value = value * 10 + u64::from(self.at(i));
-            if value > LIMIT {
+            if value > MAX_VALUE {
                 return None;
             }
         }
@@ -74,7 +77,8 @@ impl Digits<'_> {
     fn cut(self, last: usize) -> Option<u64>
         requires last { 0 < last }
         requires digits { IsNumeral self }
-        ensures { IsCapped (10 ^ 18) (scaled (number (all_digits self.entry)) (neg_ℤ (pos last))) result }
+        ensures { IsCapped MAX_VALUE (scaled (number (all_digits self.entry)) (neg_ℤ (pos last)))
+            result }
     {
         let count = self.count();
         if last > count {
@@ -87,7 +91,7 @@ impl Digits<'_> {
                 if self.at(kept) < 5 {
                     return Some(value);
                 }
-                if value == LIMIT {
+                if value == MAX_VALUE {
                     return None;
                 }
                 Some(value + 1)
@@ -98,7 +102,7 @@ impl Digits<'_> {
     // The number of the digits with zeros behind them.
     fn extended(self, zeros: usize) -> Option<u64>
         requires { IsNumeral self }
-        ensures { IsCapped (10 ^ 18) (scaled (number (all_digits self.entry)) (pos zeros)) result }
+        ensures { IsCapped MAX_VALUE (scaled (number (all_digits self.entry)) (pos zeros)) result }
     {
         match self.leading(self.count()) {
             None => None,
@@ -109,7 +113,7 @@ impl Digits<'_> {
     // The number of the digits times 10 to the power, rounded, halves up.
     pub fn scaled(self, power: i64) -> Option<u64>
         requires { IsNumeral self }
-        ensures { IsCapped (10 ^ 18) (scaled (number (all_digits self.entry)) power) result }
+        ensures { IsCapped MAX_VALUE (scaled (number (all_digits self.entry)) power) result }
     {
         let size = power.unsigned_abs() as usize;
         if power < 0 {
@@ -123,8 +127,8 @@ impl Digits<'_> {
 // The number of all digits.
 pub fn whole_number(digits: &[u8]) -> Option<u64>
     requires digits { IsDigits digits.now }
-    requires short { length digits.now ≤ 64 }
-    ensures { IsCapped (10 ^ 18) (number digits.now) result }
+    requires short { length digits.now ≤ MAX_BYTES }
+    ensures { IsCapped MAX_VALUE (number digits.now) result }
 {
     let alone = Digits {
         front: digits,

@@ -4,38 +4,38 @@
 #![tactic(auto)]
 
 mod digits;
+mod limits;
 mod parts;
 mod rounding;
 #[cfg(test)]
 mod tests;
 
-ghost use Rattle.std.specs.Prelude.{◌≡◌, ◌≤◌, ◌^◌, ◌++◌, length, unsigned_abs, IfOk};
+ghost use Rattle.std.specs.Prelude.{◌≡◌, ◌≤◌, ◌++◌, length, unsigned_abs, IfOk};
 ghost use Rattle.fixed_decimal.specs.Decimals.{Decimal, Spells};
 ghost use Rattle.fixed_decimal.specs.Rounding.{number, power, IsRounded};
 ghost use Rattle.fixed_decimal.specs.Answers.{fixed, rounded, IsAnswer};
 
+pub use limits::{MAX_BYTES, MAX_EXPONENT, MAX_PLACES, MAX_VALUE};
 use parts::split;
 use rounding::rounded;
 
-/// Why a text is no number of the unit.
+/// Why a text is no number of the unit: the first of these that holds.
 #[derive(Clone, Copy, Debug, PartialEq, Eq)]
 pub enum DecimalFault {
-    /// The text has more than 64 bytes.
+    /// The text has more than `MAX_BYTES` bytes.
     TooLong,
-    /// The text is no decimal.
+    /// The text is no decimal: it has not the form that `parse_fixed` reads.
     Malformed,
-    /// The exponent's size is over 400, or the rounded value's size is over 10^18.
+    /// The exponent's size is over `MAX_EXPONENT`, or the rounded value's size over `MAX_VALUE`.
     OutOfRange,
 }
-
-const LONGEST: usize = 64;
 
 // The answer by its definition alone: what else is promised of it follows from that.
 #[tactic(auto, unfolding(crate::specs::Answers::fixed))]
 fn fixed(text: &[u8], places: u8) -> Result<i64, DecimalFault>
     ensures { result ≡ fixed text.now places }
 {
-    if text.len() > LONGEST {
+    if text.len() > MAX_BYTES {
         return Err(DecimalFault::TooLong);
     }
     match split(text) {
@@ -44,17 +44,25 @@ fn fixed(text: &[u8], places: u8) -> Result<i64, DecimalFault>
     }
 }
 
-/// The value of the text times 10 to the places, rounded to the nearest whole number, halves away
-/// from 0. The text is `[+|-] digits [. digits] [e|E [+|-] digits]`, where the digits before and
-/// after the point may be missing, but not both. There are at most 9 places.
+/// The value of the text in units of 10^-places, rounded to the nearest whole number, halves away
+/// from 0. It is at most `MAX_VALUE` in size.
+///
+/// The text is `[+|-] digits [. digits] [e|E [+|-] digits]`, where the digits before and after the
+/// point may be missing, but not both. Digits are `0` to `9`. There are at most `MAX_PLACES`
+/// places.
+///
+/// It fails with `TooLong` where the text has more than `MAX_BYTES` bytes; else with `Malformed`
+/// where it is no decimal; else with `OutOfRange` where the exponent is over `MAX_EXPONENT` in
+/// size, or the value, once rounded, over `MAX_VALUE`.
 pub fn parse_fixed(text: &[u8], places: u8) -> Result<i64, DecimalFault>
-    requires { places ≤ 9 }
+    requires { places ≤ MAX_PLACES }
     ensures exact { result ≡ fixed text.now places }
-    ensures decimal { length text.now ≤ 64 → (d : Decimal) → Spells text.now d → result ≡ rounded d places }
+    ensures decimal { length text.now ≤ MAX_BYTES → (d : Decimal) → Spells text.now d
+        → result ≡ rounded d places }
     ensures answer { IsAnswer text.now places result }
     ensures nearest { IfOk result (λ n. (d : Decimal) → Spells text.now d
-        → IsRounded (number (d.whole ++ d.fraction)) (power d places) (unsigned_abs n)) }
-    ensures range { IfOk result (λ n. unsigned_abs n ≤ 10 ^ 18) }
+        → IsRounded (number (d.whole_part ++ d.fraction)) (power d places) (unsigned_abs n)) }
+    ensures range { IfOk result (λ n. unsigned_abs n ≤ MAX_VALUE) }
 {
     fixed(text, places)
 }

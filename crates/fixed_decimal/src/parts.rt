@@ -2,7 +2,8 @@ ghost use Rattle.std.specs.Prelude.{◌≡◌, not, ◌&&◌, true, false, lengt
 ghost use Rattle.std.specs.List.{list_all};
 ghost use Rattle.std.specs.Char.{is_ascii_digit};
 ghost use Rattle.fixed_decimal.specs.Parts.{as_decimal};
-ghost use Rattle.fixed_decimal.specs.Reading.{first_digits, after_digits, is_negative, unsigned, fraction, after_fraction};
+ghost use Rattle.fixed_decimal.specs.Reading.{first_digits, after_digits, is_negative, unsigned};
+ghost use Rattle.fixed_decimal.specs.Reading.{fraction, after_fraction};
 ghost use Rattle.fixed_decimal.specs.Reading.{is_number, is_exponent, exponent_negative, exponent};
 ghost use Rattle.fixed_decimal.specs.Reading.{lacks_digits, is_decimal, decimal_of};
 
@@ -10,7 +11,7 @@ ghost use Rattle.fixed_decimal.specs.Reading.{lacks_digits, is_decimal, decimal_
 #[derive(Clone, Copy)]
 pub struct Parts<'a> {
     pub negative: bool,
-    pub whole: &'a [u8],
+    pub whole_part: &'a [u8],
     pub fraction: &'a [u8],
     pub exponent_negative: bool,
     pub exponent: &'a [u8],
@@ -128,10 +129,10 @@ fn lacks_digits(before: &[u8], after: &[u8]) -> bool
 }
 
 // Whether a text is a decimal, by its digits before and after the point and by what follows them.
-fn are_parts(whole: &[u8], fraction: &[u8], tail: &[u8]) -> bool
-    ensures { result ≡ (not (lacks_digits whole.now fraction.now) && is_exponent tail.now) }
+fn are_parts(whole_part: &[u8], fraction: &[u8], tail: &[u8]) -> bool
+    ensures { result ≡ (not (lacks_digits whole_part.now fraction.now) && is_exponent tail.now) }
 {
-    !lacks_digits(whole, fraction) && is_exponent(tail)
+    !lacks_digits(whole_part, fraction) && is_exponent(tail)
 }
 
 // The parts of a decimal, None where the text is no decimal.
@@ -141,16 +142,16 @@ pub fn split(text: &[u8]) -> Option<Parts<'_>>
         (λ p. (is_decimal text.now ≡ true) × (as_decimal p ≡ decimal_of text.now)) }
 {
     let mantissa = unsigned(text);
-    let whole = first_digits(mantissa);
+    let whole_part = first_digits(mantissa);
     let behind = after_digits(mantissa);
     let fraction = fraction(behind);
     let tail = after_fraction(behind);
-    if !are_parts(whole, fraction, tail) {
+    if !are_parts(whole_part, fraction, tail) {
         return None;
     }
     Some(Parts {
         negative: is_negative(text),
-        whole,
+        whole_part,
         fraction,
         exponent_negative: exponent_negative(tail),
         exponent: exponent(tail),

@@ -1,18 +1,18 @@
-ghost use Rattle.std.specs.Prelude.{◌≡◌, ◌≤◌, ◌^◌, ◌+ℤ◌, ◌-ℤ◌, pos, unsigned_abs, length};
+ghost use Rattle.std.specs.Prelude.{◌≡◌, ◌≤◌, ◌+◌, ◌+ℤ◌, ◌-ℤ◌, pos, unsigned_abs, length};
 ghost use Rattle.fixed_decimal.specs.Decimals.{IsDigits};
 ghost use Rattle.fixed_decimal.specs.Parts.{as_decimal, IsShort};
 ghost use Rattle.fixed_decimal.specs.Rounding.{number, signed, power, size, IsCapped};
 ghost use Rattle.fixed_decimal.specs.Answers.{rounded};
+ghost use Rattle.fixed_decimal.specs.declared.limits.TheConstants.{MAX_BYTES, MAX_VALUE};
 
 use crate::DecimalFault;
 use crate::digits::{Digits, whole_number};
+use crate::limits::MAX_EXPONENT;
 use crate::parts::Parts;
-
-const GREATEST_EXPONENT: u64 = 400;
 
 // The number of this size and sign.
 fn signed(negative: bool, size: u64) -> i64
-    requires { size ≤ 10 ^ 18 }
+    requires { size ≤ MAX_VALUE }
     ensures value { result ≡ signed negative size }
     ensures size { unsigned_abs result ≡ size }
 {
@@ -25,30 +25,30 @@ fn signed(negative: bool, size: u64) -> i64
 
 // The power less this many.
 fn less(power: i64, count: usize) -> i64
-    requires power { unsigned_abs power ≤ 400 }
-    requires count { count ≤ 64 }
+    requires power { unsigned_abs power ≤ MAX_EXPONENT }
+    requires count { count ≤ MAX_BYTES }
     ensures value { result ≡ power -ℤ pos count }
-    ensures size { unsigned_abs result ≤ 464 }
+    ensures size { unsigned_abs result ≤ MAX_EXPONENT + MAX_BYTES }
 {
     power - count as i64
 }
 
 // The power and this many.
 fn more(power: i64, count: u8) -> i64
-    requires { unsigned_abs power ≤ 464 }
+    requires { unsigned_abs power ≤ MAX_EXPONENT + MAX_BYTES }
     ensures { result ≡ power +ℤ pos count }
 {
     power + i64::from(count)
 }
 
-// The exponent's size, None where it is over 400.
+// The exponent's size, None where it is too large.
 fn exponent_size(digits: &[u8]) -> Option<u64>
     requires digits { IsDigits digits.now }
-    requires short { length digits.now ≤ 64 }
-    ensures { IsCapped 400 (number digits.now) result }
+    requires short { length digits.now ≤ MAX_BYTES }
+    ensures { IsCapped MAX_EXPONENT (number digits.now) result }
 {
     match whole_number(digits) {
-        Some(size) if size <= GREATEST_EXPONENT => Some(size),
+        Some(size) if size <= MAX_EXPONENT => Some(size),
         _ => None,
     }
 }
@@ -58,7 +58,7 @@ fn exponent_size(digits: &[u8]) -> Option<u64>
 fn power(parts: Parts<'_>, exponent: u64, places: u8) -> i64
     requires parts { IsShort (as_decimal parts) }
     requires exponent { exponent ≡ number parts.exponent.now }
-    requires limit { exponent ≤ 400 }
+    requires limit { exponent ≤ MAX_EXPONENT }
     ensures { result ≡ power (as_decimal parts.entry) places }
 {
     let written = signed(parts.exponent_negative, exponent);
@@ -70,11 +70,11 @@ fn power(parts: Parts<'_>, exponent: u64, places: u8) -> i64
 fn size(parts: Parts<'_>, exponent: u64, places: u8) -> Option<u64>
     requires parts { IsShort (as_decimal parts) }
     requires exponent { exponent ≡ number parts.exponent.now }
-    requires limit { exponent ≤ 400 }
-    ensures { IsCapped (10 ^ 18) (size (as_decimal parts.entry) places) result }
+    requires limit { exponent ≤ MAX_EXPONENT }
+    ensures { IsCapped MAX_VALUE (size (as_decimal parts.entry) places) result }
 {
     let digits = Digits {
-        front: parts.whole,
+        front: parts.whole_part,
         back: parts.fraction,
     };
     digits.scaled(power(parts, exponent, places))

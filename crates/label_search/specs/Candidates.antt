@@ -5,7 +5,8 @@ use Rattle.rulebook_order.specs.VectorOrder.{Holds}
 use Rattle.label_search.specs.declared.candidate.Candidate.{Candidate}
 
 -- some candidate is no worse than the vector
-pub record IsCovered (no_worse : List ℕ → List ℕ → Bool) (candidates : List Candidate) (vector : List ℕ) : Type 0 where
+pub record IsCovered (no_worse : List ℕ → List ℕ → Bool) (candidates : List Candidate)
+    (vector : List ℕ) : Type 0 where
   pub by : Candidate
   pub listed : Contains candidates by
   pub no_worse_is : IsTrue (no_worse by.vector vector)
@@ -16,7 +17,8 @@ stays no_worse vector candidate = not (no_worse vector candidate.vector)
 
 -- no candidate is no worse than another
 abbrev pub StandApart : (List ℕ → List ℕ → Bool) → List Candidate → Type 0
-StandApart no_worse candidates = AllPairs (λ x y. AreApart (Holds no_worse) x.vector y.vector) candidates
+StandApart no_worse candidates =
+    AllPairs (λ x y. AreApart (Holds no_worse) x.vector y.vector) candidates
 
 -- the vectors have this many numbers
 abbrev pub HaveWidth : ℕ → List Candidate → Type 0

@@ -1,7 +1,10 @@
 //! Label search over any step graph and any order of vectors.
 //!
-//! The layer above uses the clauses of `search`: its labels are the undominated pairs, its finals the answer, and its links show it.
-//! The definitions stand in `specs/Found.antt` and `specs/Limit.antt`, over those of graphs, answers and labels in `rulebook_order`; what the search knows from tick to tick stands in `specs/Search.antt`.
+//! The layer above uses the clauses of `search`: its labels are the undominated pairs, its finals
+//! the answer, and its links show it.
+//! The definitions stand in `specs/Found.antt` and `specs/Limit.antt`, over those of graphs,
+//! answers and labels in `rulebook_order`; what the search knows from tick to tick stands in
+//! `specs/Search.antt`.
 #![tactic(auto)]
 
 mod arrival;

@@ -1,6 +1,7 @@
 //! Links from what choices lead to, to the labels that are no worse.
 
-ghost use Rattle.std.specs.Prelude.{◌≡◌, ◌^◌, ◌<◌, ◌≤◌, ℕ, List as Items, length, Some, slice_get, All, map, IfOk};
+ghost use Rattle.std.specs.Prelude.{◌≡◌, ◌^◌, ◌<◌, ◌≤◌, ℕ, List as Items, length, Some, slice_get};
+ghost use Rattle.std.specs.Prelude.{All, map, IfOk};
 ghost use Rattle.rulebook_order.specs.Graph.{IsReached};
 ghost use Rattle.rulebook_order.specs.VectorOrder.{Holds};
 ghost use Rattle.label_search.specs.Candidates.{IsCovered, HaveWidth};
@@ -40,7 +41,7 @@ pub fn by_state<G: StepGraph>(
     Ok(index)
 }
 
-/// For each of the arrivals the number of a candidate of its state that is no worse.
+// For each of the arrivals the number of a candidate of its state that is no worse.
 fn links_to<G: StepGraph, O: VectorOrder>(
     alloc: Global,
     graph: &G,
@@ -48,12 +49,17 @@ fn links_to<G: StepGraph, O: VectorOrder>(
     index: &IndexMap<G::State, Vec<Candidate>>,
     arrivals: &[Arrival<G::State>],
 ) -> Result<List<u32>, NoMemory>
-    requires index { (s : G.State) → HaveWidth (O.rules order.now) (items_at G.State.eq index.now s) }
-    requires numbers { (s : G.State) → All (λ x. x.number < 2 ^ 32) (items_at G.State.eq index.now s) }
+    requires index { (s : G.State) → HaveWidth (O.rules order.now)
+        (items_at G.State.eq index.now s) }
+    requires numbers { (s : G.State) → All (λ x. x.number < 2 ^ 32)
+        (items_at G.State.eq index.now s) }
     requires widths { All (λ x. length x.vector ≡ O.rules order.now) arrivals.now }
-    requires covered { All (λ x. IsCovered (O.no_worse order.now) (items_at G.State.eq index.now x.state) x.vector) arrivals.now }
+    requires covered { All (λ x. IsCovered (O.no_worse order.now)
+        (items_at G.State.eq index.now x.state) x.vector) arrivals.now }
     ensures count { IfOk result (λ links. length links ≡ length arrivals.now) }
-    ensures covers { IfOk result (λ links. (j : ℕ) (x : _) → slice_get arrivals.now j ≡ Some x → IsCoveredBy (O.no_worse order.now) (items_at G.State.eq index.now x.state) links j x.vector) }
+    ensures covers { IfOk result (λ links. (j : ℕ) (x : _) → slice_get arrivals.now j ≡ Some x
+        → IsCoveredBy (O.no_worse order.now)
+        (items_at G.State.eq index.now x.state) links j x.vector) }
 {
     let _ = graph;
     let mut links = List::new(alloc);
@@ -82,9 +88,11 @@ pub fn with_links<G: StepGraph, O: VectorOrder>(
     requires fits { length arrivals.now ≤ 2 ^ 32 }
     requires reached { All (λ x. IsReached (G.graph graph.now) x.state x.vector) arrivals.now }
     requires extensions { extensions.now ≡ extensions_from (G.graph graph.now) 0 arrivals.now }
-    requires covered { All (λ x. IsCoveredAt (O.no_worse order.now) arrivals.now x.state x.vector) extensions.now }
+    requires covered { All
+        (λ x. IsCoveredAt (O.no_worse order.now) arrivals.now x.state x.vector) extensions.now }
     ensures arrivals { IfOk result (λ labels. map arrival_of labels ≡ arrivals.now) }
-    ensures links { IfOk result (λ labels. All (HasLinks (G.graph graph.now) (Holds (O.no_worse order.now)) (map pair_of arrivals.now)) labels) }
+    ensures links { IfOk result (λ labels. All (HasLinks (G.graph graph.now)
+        (Holds (O.no_worse order.now)) (map pair_of arrivals.now)) labels) }
 {
     let mut labels = List::new(alloc);
     let mut next = 0;

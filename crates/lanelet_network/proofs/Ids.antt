@@ -52,7 +52,7 @@ id_at_place lanes id place d within same = sym (get_or-map (λ (lane : Lane). la
 
 pub only_one : (lanes : List Lane) (id place : ℕ) (lane : Lane) → HaveOwnIds lanes → place < length lanes → slice_index (lane_ids lanes) place ≡ id → lane ≡ get_or lanes place lane → IsOfLanelet lanes id (λ other. other ≡ lane)
 only_one lanes id place lane different within same is = record {
-  known = (place, id, omega (arith, within, length-map lanes (λ (l : Lane). l.id)), get_or-map (λ (l : Lane). l.id) lanes place nowhere id within ∙ id_at_place lanes id place nowhere within same, refl);
+  known_id = (place, id, omega (arith, within, length-map lanes (λ (l : Lane). l.id)), get_or-map (λ (l : Lane). l.id) lanes place nowhere id within ∙ id_at_place lanes id place nowhere within same, refl);
   each = λ k d below other.
       elim (cases_lt k place) [
         | inl before ↦ absurd (different k place d before within (other ∙ sym (id_at_place lanes id place d within same)))

@@ -35,14 +35,6 @@ less_at_most a b c h k = omega (arith, ints, h, k)
 less_at_most_less : (a b c : ℤ) → a <ℤ b → b ≤ℤ c → a <ℤ c
 less_at_most_less a b c h k = omega (arith, ints, h, k)
 
-pub first_alone : (p : Point) (bound : List Point) (least : ℤ) → least ≡ squared_distance p (point_at bound 0) → IsFirstLeast p bound 1 0 least
-first_alone p bound least e = record {
-  here = omega arith;
-  is = e;
-  earlier = λ k h. absurd (omega (arith, h));
-  every = last_too (λ k. least ≤ℤ squared_distance p (point_at bound k)) 0 (λ k h. absurd (omega (arith, h))) (at_same least (squared_distance p (point_at bound 0)) e);
-}
-
 pub later_less : (p : Point) (bound : List Point) (i place : ℕ) (least distance : ℤ) → IsFirstLeast p bound i place least → distance ≡ squared_distance p (point_at bound i) → distance <ℤ least → IsFirstLeast p bound (i + 1) i distance
 later_less p bound i place least distance h e lt = record {
   here = omega arith;

@@ -1,21 +1,18 @@
--- Where a bound is nearest to a point, and how it leads there: this project's own, by squared distances.
-use Rattle.std.specs.Prelude.{ℕ, ◌+◌, ◌-◌, Bool, nat_lt, if◌then◌else◌, ℤ, pos, ◌+ℤ◌, ◌-ℤ◌, ◌*ℤ◌, int_le, List, length, slice_index_or}
+-- Where a bound is nearest to a point, and how it leads there: this project's own, by squared
+-- distances.
+use Rattle.std.specs.Prelude.{ℕ, ◌+◌, ◌-◌, Bool, nat_lt, if◌then◌else◌, ℤ, pos, int_le}
+use Rattle.std.specs.Prelude.{List, length, slice_index_or}
 use Rattle.std.specs.List.{list_all, position_or_len}
 use Rattle.fixed_geometry.specs.declared.point.Point.{Point}
-
--- how to come from p to q
-unfoldable pub way : Point → Point → Point
-way p q = record { x = q.x -ℤ p.x; y = q.y -ℤ p.y }
-
-unfoldable pub dot : Point → Point → ℤ
-dot u v = u.x *ℤ v.x +ℤ u.y *ℤ v.y
+use Rattle.fixed_geometry.specs.Vectors.{way, dot}
 
 unfoldable pub squared_distance : Point → Point → ℤ
 squared_distance p q = dot (way p q) (way p q)
 
 -- no point of the bound is nearer to p than q
 unfoldable pub is_nearest : Point → List Point → Point → Bool
-is_nearest p bound q = list_all (λ other. int_le (squared_distance p q) (squared_distance p other)) bound
+is_nearest p bound q =
+    list_all (λ other. int_le (squared_distance p q) (squared_distance p other)) bound
 
 -- the place of the first point at the least squared distance from p
 unfoldable pub nearest : Point → List Point → ℕ

@@ -1,16 +1,19 @@
--- CommonRoad's lanelets as a network keeps them. What a lanelet holds and where it leads is this project's own.
-use Rattle.std.specs.Prelude.{◌≡◌, ℕ, Bool, not, ◌&&◌, ◌||◌, ◌==◌, ℤ, pos, int_lt, List, ◌++◌, map, reverse, count_by, slice_get, false, All}
+-- CommonRoad's lanelets as a network keeps them. What a lanelet holds and where it leads is this
+-- project's own.
+use Rattle.std.specs.Prelude.{◌≡◌, ℕ, Bool, not, ◌&&◌, ◌||◌, ◌==◌, ℤ, pos, int_lt, List, ◌++◌}
+use Rattle.std.specs.Prelude.{map, reverse, count_by, slice_get, false, All}
 use Rattle.std.specs.List.{list_all, list_any}
 use Rattle.std.specs.Option.{option_map_or}
 use Rattle.fixed_geometry.specs.declared.point.Point.{Point}
 use Rattle.fixed_geometry.specs.Polygon.{point_in}
 use Rattle.fixed_geometry.specs.Turning.{direction}
+use Rattle.fixed_geometry.specs.Vectors.{dot}
 use Rattle.scenario_model.specs.declared.lanelet.Lanelet.{Lanelet}
 use Rattle.scenario_model.specs.declared.scenario.Scenario.{Scenario}
 use Rattle.scenario_model.specs.Scenario.{IsKnown, HaveDifferentIds}
 use Rattle.lanelet_network.specs.declared.fault.NetworkFault.{NetworkFault}
 use Rattle.lanelet_network.specs.declared.fault.NetworkFault.TheVariants.{UnknownLanelet}
-use Rattle.lanelet_network.specs.Bounds.{dot, direction_along}
+use Rattle.lanelet_network.specs.Bounds.{direction_along}
 
 pub record Lane : Type 0 where
   pub id : ℕ
@@ -26,7 +29,12 @@ abbrev pub corners_of : Lanelet → List Point
 corners_of lanelet = lanelet.left ++ reverse lanelet.right
 
 abbrev pub lane_of : Lanelet → Lane
-lane_of lanelet = record { id = lanelet.id; left = lanelet.left; corners = corners_of lanelet; successors = lanelet.successors }
+lane_of lanelet = record {
+  id = lanelet.id;
+  left = lanelet.left;
+  corners = corners_of lanelet;
+  successors = lanelet.successors;
+}
 
 -- in document order
 abbrev pub lanes_of : Scenario → List Lane
@@ -48,7 +56,7 @@ HaveOwnIds lanes = HaveDifferentIds (λ (lane : Lane). lane.id) lanes
 
 -- there is a lanelet with the id, and the fact holds of it
 pub record IsOfLanelet (lanes : List Lane) (id : ℕ) (fact : Lane → Type 0) : Type 0 where
-  pub known : IsKnown (lane_ids lanes) id
+  pub known_id : IsKnown (lane_ids lanes) id
   pub each : All (λ (lane : Lane). lane.id ≡ id → fact lane) lanes
 
 -- the lanelet's closed polygon holds the point

@@ -1,59 +1,13 @@
-ghost use Rattle.std.specs.Prelude.{◌≡◌, ◌<◌, ◌≤◌, ◌*◌, ◌^◌, ◌+ℤ◌, ◌-ℤ◌, ◌*ℤ◌, All, length, unsigned_abs};
+ghost use Rattle.std.specs.Prelude.{◌≡◌, ◌<◌, ◌≤◌, ◌*◌, All, length};
 ghost use Rattle.fixed_geometry.specs.Plane.{IsInRange, IsWithin};
-ghost use Rattle.lanelet_network.specs.Bounds.{way as way_of, dot as dot_of, squared_distance as squared_distance_of, nearest as nearest_of, lead as lead_of, direction_along as direction_of};
+ghost use Rattle.fixed_geometry.specs.declared.limits.TheConstants.{MAX_PLANE_COORDINATE};
+ghost use Rattle.lanelet_network.specs.Bounds.{squared_distance as squared_distance_of};
+ghost use Rattle.lanelet_network.specs.Bounds.{nearest as nearest_of, lead as lead_of};
+ghost use Rattle.lanelet_network.specs.Bounds.{direction_along as direction_of};
 
-use fixed_geometry::Point;
+use fixed_geometry::{Point, dot, way};
 
-// The way from one coordinate to another.
-fn step(from: i64, to: i64) -> i64
-    requires from { unsigned_abs from ≤ 10 ^ 12 }
-    requires to { unsigned_abs to ≤ 10 ^ 12 }
-    ensures value { result ≡ to -ℤ from }
-    ensures size { unsigned_abs result ≤ 2 * 10 ^ 12 }
-{
-    to - from
-}
-
-// The way from one point to another.
-#[tactic(auto, unfolding(crate::specs::Bounds::way))]
-fn way(from: Point, to: Point) -> Point
-    requires from { IsInRange from }
-    requires to { IsInRange to }
-    ensures value { result ≡ way_of from to }
-    ensures size { IsWithin (2 * 10 ^ 12) result }
-{
-    let x = step(from.x, to.x);
-    let y = step(from.y, to.y);
-    Point { x, y }
-}
-
-fn product(u: i64, v: i64) -> i128
-    requires u { unsigned_abs u ≤ 2 * 10 ^ 12 }
-    requires v { unsigned_abs v ≤ 2 * 10 ^ 12 }
-    ensures value { result ≡ u *ℤ v }
-    ensures size { unsigned_abs result ≤ 4 * 10 ^ 24 }
-{
-    i128::from(u) * i128::from(v)
-}
-
-fn sum(u: i128, v: i128) -> i128
-    requires u { unsigned_abs u ≤ 4 * 10 ^ 24 }
-    requires v { unsigned_abs v ≤ 4 * 10 ^ 24 }
-    ensures { result ≡ u +ℤ v }
-{
-    u + v
-}
-
-/// The dot product of two ways.
-#[tactic(auto, unfolding(crate::specs::Bounds::dot))]
-pub fn dot(u: Point, v: Point) -> i128
-    requires u { IsWithin (2 * 10 ^ 12) u }
-    requires v { IsWithin (2 * 10 ^ 12) v }
-    ensures { result ≡ dot_of u v }
-{
-    sum(product(u.x, v.x), product(u.y, v.y))
-}
-
+// The squared distance of two points, in units of (0.1 mm)^2.
 #[tactic(auto, unfolding(crate::specs::Bounds::squared_distance))]
 fn squared_distance(p: Point, q: Point) -> i128
     requires p { IsInRange p }
@@ -91,7 +45,7 @@ fn lead(bound: &[Point], place: usize) -> Point
     requires enough { 2 ≤ length bound.now }
     requires bound { All IsInRange bound.now }
     ensures value { result ≡ lead_of bound.now place }
-    ensures size { IsWithin (2 * 10 ^ 12) result }
+    ensures size { IsWithin (2 * MAX_PLANE_COORDINATE) result }
 {
     if place + 1 < bound.len() {
         way(bound[place], bound[place + 1])
@@ -100,14 +54,17 @@ fn lead(bound: &[Point], place: usize) -> Point
     }
 }
 
-/// How the bound leads where it is nearest to the point.
+/// How the bound leads at its first point that is nearest to the point: the way from there to the
+/// next point, and from the point before at the last, in 0.1 mm.
+///
+/// All points are in range, and the bound has two or more.
 #[tactic(auto, unfolding(crate::specs::Bounds::direction_along))]
 pub fn direction_along(bound: &[Point], p: Point) -> Point
     requires enough { 2 ≤ length bound.now }
     requires bound { All IsInRange bound.now }
     requires p { IsInRange p }
     ensures value { result ≡ direction_of bound.now p }
-    ensures size { IsWithin (2 * 10 ^ 12) result }
+    ensures size { IsWithin (2 * MAX_PLANE_COORDINATE) result }
 {
     lead(bound, nearest(p, bound))
 }

@@ -5,6 +5,7 @@ use std::alloc::{AllocError, AllocFailed};
 pub enum NetworkFault {
     /// No lanelet has the id.
     UnknownLanelet,
+    /// There is no memory for it.
     NoMemory,
 }
 

@@ -1,11 +1,16 @@
-ghost use Rattle.std.specs.Prelude.{◌≡◌, ◌≤◌, ◌*◌, ◌^◌, ◌++◌, All, length, reverse, IfOk, IfErr};
+ghost use Rattle.std.specs.Prelude.{◌≡◌, ◌≤◌, ◌*◌, ◌++◌, All, length, reverse, IfOk, IfErr};
 ghost use Rattle.fixed_geometry.specs.Plane.{IsInRange, IsWithin};
 ghost use Rattle.scenario_model.specs.Scenario.{IsBound};
-ghost use Rattle.lanelet_network.specs.Lanes.{lane_of, holds as does_hold, direction_at as direction_of, opposes as does_oppose, opposes_if_holding as does_oppose_if_holding};
+ghost use Rattle.fixed_geometry.specs.declared.limits.TheConstants.{MAX_PLANE_COORDINATE};
+ghost use Rattle.fixed_geometry.specs.declared.limits.TheConstants.{MICROS_PER_UNIT};
+ghost use Rattle.lanelet_network.specs.Lanes.{lane_of, holds as does_hold};
+ghost use Rattle.lanelet_network.specs.Lanes.{direction_at as direction_of};
+ghost use Rattle.lanelet_network.specs.Lanes.{opposes as does_oppose};
+ghost use Rattle.lanelet_network.specs.Lanes.{opposes_if_holding as does_oppose_if_holding};
 
-use crate::bound::{direction_along, dot};
+use crate::bound::direction_along;
 use crate::fault::NetworkFault;
-use fixed_geometry::{Point, Polygon, point_in};
+use fixed_geometry::{Point, Polygon, dot, point_in};
 use scenario_model::Lanelet;
 use std::alloc::{AllocError, Global};
 use std::marker::Model;
@@ -25,7 +30,12 @@ impl Model for Lane {
 
     ghost Value = { Shown };
 
-    ghost view = { λ l. record { id = l.id; left = take l.left_count l.polygon; corners = l.polygon; successors = l.successors.items } };
+    ghost view = { λ l. record {
+      id = l.id;
+      left = take l.left_count l.polygon;
+      corners = l.polygon;
+      successors = l.successors.items;
+    } };
 
     ghost invariant = { λ l. (2 ≤ l.left_count) × (l.left_count ≤ length l.polygon) };
 }
@@ -40,6 +50,7 @@ fn corners(alloc: Global, left: &[Point], right: &[Point]) -> Result<Vec<Point>,
         .collect(alloc)
 }
 
+// The polygon of two bounds.
 fn polygon(alloc: Global, left: &[Point], right: &[Point]) -> Result<Polygon, NetworkFault>
     requires left { IsBound left.now }
     requires right { IsBound right.now }
@@ -53,7 +64,10 @@ fn polygon(alloc: Global, left: &[Point], right: &[Point]) -> Result<Polygon, Ne
 }
 
 impl Lane {
-    /// The bounds of the lanelet have 2 to 2,048 points, of at most 10^11 in size.
+    /// The lanelet as a network keeps it. It fails for want of memory alone.
+    ///
+    /// Each of its bounds has 2 to `MAX_BOUND_POINTS` points, with coordinates of at most
+    /// `MAX_COORDINATE` in size.
     pub fn new(alloc: Global, lanelet: &Lanelet) -> Result<Lane, NetworkFault>
         requires left { IsBound lanelet.now.left }
         requires right { IsBound lanelet.now.right }
@@ -71,12 +85,14 @@ impl Lane {
         })
     }
 
+    /// Its id.
     pub fn id(&self) -> u64
         ensures { result ≡ self.now.id }
     {
         self.id
     }
 
+    /// The ids of the known lanelets that follow, in document order.
     pub fn successors(&self) -> &[u64]
         ensures { result.now ≡ self.now.successors }
     {
@@ -92,7 +108,7 @@ impl Lane {
         &self.polygon.corners()[..self.left_count]
     }
 
-    /// Whether the lanelet's polygon holds the point.
+    /// Whether the lanelet's closed polygon holds the point, which is in range.
     pub fn holds(&self, point: Point) -> bool
         requires { IsInRange point }
         ensures { result ≡ does_hold point self.now }
@@ -100,11 +116,12 @@ impl Lane {
         point_in(point, self.polygon.corners())
     }
 
-    /// How the lanelet leads at the point.
+    /// How the lanelet's left bound leads where it is nearest to the point, in 0.1 mm. The point is
+    /// in range.
     pub fn direction_at(&self, point: Point) -> Point
         requires { IsInRange point }
         ensures value { result ≡ direction_of self.now point }
-        ensures size { IsWithin (2 * 10 ^ 12) result }
+        ensures size { IsWithin (2 * MAX_PLANE_COORDINATE) result }
     {
         direction_along(self.left(), point)
     }
@@ -113,17 +130,18 @@ impl Lane {
     #[tactic(auto, unfolding(crate::specs::Lanes::opposes))]
     fn opposes(&self, point: Point, ahead: Point) -> bool
         requires point { IsInRange point }
-        requires ahead { IsWithin 1_000_000 ahead }
+        requires ahead { IsWithin MICROS_PER_UNIT ahead }
         ensures { result ≡ does_oppose point ahead self.now }
     {
         dot(self.direction_at(point), ahead) < 0
     }
 
-    /// Whether the lanelet leads more back than ahead at the point, or does not hold it.
+    /// Whether the lanelet leads more back than along the direction ahead at the point, or does not
+    /// hold the point, which is in range.
     #[tactic(auto, unfolding(crate::specs::Lanes::opposes_if_holding))]
     pub fn opposes_if_holding(&self, point: Point, ahead: Point) -> bool
         requires point { IsInRange point }
-        requires ahead { IsWithin 1_000_000 ahead }
+        requires ahead { IsWithin MICROS_PER_UNIT ahead }
         ensures { result ≡ does_oppose_if_holding point ahead self.now }
     {
         !self.holds(point) || self.opposes(point, ahead)

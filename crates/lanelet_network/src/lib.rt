@@ -1,7 +1,8 @@
 //! The lanelets of a scenario: which hold a point, how they lead there, what follows them.
 //!
-//! The layer above uses that `Network::new` gives the scenario's lanelets, and the clauses `value` of `count_at`, `against` and `holds`.
-//! The definitions stand in `specs/Lanes.antt`, and those of directions along a bound in `specs/Bounds.antt`.
+//! The layer above uses that `Network::new` gives the scenario's lanelets, and the clauses `value`
+//! of `count_at`, `against` and `holds`. The definitions stand in `specs/Lanes.antt`, and those of
+//! directions along a bound in `specs/Bounds.antt`.
 #![tactic(auto)]
 
 mod bound;

@@ -1,8 +1,16 @@
-ghost use Rattle.std.specs.Prelude.{◌≡◌, ◌<◌, ◌≤◌, ◌*◌, ◌^◌, length, slice_index, unsigned_abs, IfOk, IfErr, Some, None};
+ghost use Rattle.std.specs.Prelude.{◌≡◌, ◌<◌, ◌≤◌, ◌*◌, length, slice_index, unsigned_abs};
+ghost use Rattle.std.specs.Prelude.{IfOk, IfErr, Some, None};
 ghost use Rattle.std.specs.List.{position, list_any, list_all};
 ghost use Rattle.fixed_geometry.specs.Plane.{IsInRange, IsWithin};
 ghost use Rattle.scenario_model.specs.Scenario.{IsScenario, lanelet_ids};
-ghost use Rattle.lanelet_network.specs.Lanes.{lanes_of, lane_ids, has_id, IsUnknown, IsOfLanelet, holds as does_hold, holds_at as does_hold_at, count_at as count_of, direction_at as direction_of, is_against, opposes_if_holding as does_oppose_if_holding};
+ghost use Rattle.fixed_geometry.specs.declared.limits.TheConstants.{MAX_ANGLE, MICROS_PER_UNIT};
+ghost use Rattle.fixed_geometry.specs.declared.limits.TheConstants.{MAX_PLANE_COORDINATE};
+ghost use Rattle.scenario_model.specs.declared.limits.TheConstants.{MAX_LANELETS};
+ghost use Rattle.lanelet_network.specs.Lanes.{lanes_of, lane_ids, has_id, is_against};
+ghost use Rattle.lanelet_network.specs.Lanes.{IsUnknown, IsOfLanelet, holds as does_hold};
+ghost use Rattle.lanelet_network.specs.Lanes.{holds_at as does_hold_at, count_at as count_of};
+ghost use Rattle.lanelet_network.specs.Lanes.{direction_at as direction_of};
+ghost use Rattle.lanelet_network.specs.Lanes.{opposes_if_holding as does_oppose_if_holding};
 
 use crate::fault::NetworkFault;
 use crate::lane::Lane;
@@ -13,7 +21,8 @@ use std::marker::Model;
 
 /// The lanelets of a scenario, in document order.
 ///
-/// Lengths are in 0.1 mm, and points are at most 10^12 in size.
+/// Lengths are in 0.1 mm. The points that it is asked about are in range: their coordinates are at
+/// most `MAX_PLANE_COORDINATE` in size.
 #[derive(Drop)]
 pub struct Network {
     lanes: Vec<Lane>,
@@ -21,17 +30,19 @@ pub struct Network {
 
 impl Model for Network {
     ghost use Rattle.std.specs.Prelude.{◌≤◌, List, length};
+    ghost use Rattle.scenario_model.specs.declared.limits.TheConstants.{MAX_LANELETS};
     ghost use Rattle.lanelet_network.specs.Lanes.{Lane as Shown, HaveOwnIds};
 
     ghost Value = { List Shown };
 
     ghost view = { λ n. n.lanes.items };
 
-    ghost invariant = { λ n. (length n.lanes.items ≤ 4000) × HaveOwnIds n.lanes.items };
+    ghost invariant = { λ n. (length n.lanes.items ≤ MAX_LANELETS)
+        × HaveOwnIds n.lanes.items };
 }
 
 impl Network {
-    /// The network of a scenario that is well formed. It is refused for want of memory alone.
+    /// The network of a scenario that is well formed. It fails for want of memory alone.
     pub fn new(alloc: Global, scenario: &Scenario) -> Result<Network, NetworkFault>
         requires { IsScenario scenario.now }
         ensures ok { IfOk result (λ network. network ≡ lanes_of scenario.now) }
@@ -45,10 +56,10 @@ impl Network {
         Ok(Network { lanes })
     }
 
-    /// The number of lanelets, which is at most 4,000.
+    /// The number of lanelets, at most `MAX_LANELETS`.
     pub fn count(&self) -> usize
         ensures value { result ≡ length self.now }
-        ensures few { result ≤ 4000 }
+        ensures few { result ≤ MAX_LANELETS }
     {
         self.lanes.len()
     }
@@ -56,7 +67,7 @@ impl Network {
     // The place of the first lanelet with the id.
     fn position(&self, id: u64) -> Option<usize>
         ensures value { result ≡ position (has_id id) self.now }
-        ensures few { length self.now ≤ 4000 }
+        ensures few { length self.now ≤ MAX_LANELETS }
     {
         self.lanes.iter().position(|lane| lane.id() == id)
     }
@@ -66,8 +77,8 @@ impl Network {
         ensures within { IfOk result (λ place. place < length self.now) }
         ensures id { IfOk result (λ place. slice_index (lane_ids self.now) place ≡ id) }
         ensures first { IfOk result (λ place. position (has_id id) self.now ≡ Some place) }
-        ensures few { length self.now ≤ 4000 }
-        ensures unknown { IfErr result (IsUnknown self.now id) }
+        ensures few { length self.now ≤ MAX_LANELETS }
+        ensures unknown_id { IfErr result (IsUnknown self.now id) }
         ensures nowhere { IfErr result (λ _. position (has_id id) self.now ≡ None) }
     {
         match self.position(id) {
@@ -79,48 +90,59 @@ impl Network {
     // The lanelet with the id.
     fn lane(&self, id: u64) -> Result<&Lane, NetworkFault>
         ensures value { IfOk result (λ lane. IsOfLanelet self.now id (λ other. other ≡ lane.now)) }
-        ensures unknown { IfErr result (IsUnknown self.now id) }
+        ensures unknown_id { IfErr result (IsUnknown self.now id) }
     {
         let place = self.place(id)?;
         Ok(&self.lanes[place])
     }
 
-    /// Whether the polygon of the lanelet with the id holds the point.
+    /// Whether the closed polygon of the lanelet with the id holds the point.
+    ///
+    /// It fails with `UnknownLanelet` where no lanelet has the id.
     pub fn holds(&self, id: u64, point: Point) -> Result<bool, NetworkFault>
         requires { IsInRange point }
-        ensures value { IfOk result (λ answer. IsOfLanelet self.now id (λ lane. answer ≡ does_hold point lane)) }
-        ensures unknown { IfErr result (IsUnknown self.now id) }
+        ensures value { IfOk result (λ answer.
+            IsOfLanelet self.now id (λ lane. answer ≡ does_hold point lane)) }
+        ensures unknown_id { IfErr result (IsUnknown self.now id) }
     {
         Ok(self.lane(id)?.holds(point))
     }
 
-    /// The direction of the lanelet with the id at the point: how its left bound leads at its first point at the least distance.
+    /// The direction of the lanelet with the id at the point, in 0.1 mm: how its left bound leads
+    /// at its first point at the least distance.
     ///
-    /// It is the way from that point to the next, and for the last point the way from the one before it.
+    /// It is the way from that point to the next, and for the last point the way from the one
+    /// before it. It fails with `UnknownLanelet` where no lanelet has the id.
     pub fn direction_at(&self, id: u64, point: Point) -> Result<Point, NetworkFault>
         requires { IsInRange point }
-        ensures value { IfOk result (λ way. IsOfLanelet self.now id (λ lane. way ≡ direction_of lane point)) }
-        ensures size { IfOk result (IsWithin (2 * 10 ^ 12)) }
-        ensures unknown { IfErr result (IsUnknown self.now id) }
+        ensures value { IfOk result (λ way.
+            IsOfLanelet self.now id (λ lane. way ≡ direction_of lane point)) }
+        ensures size { IfOk result (IsWithin (2 * MAX_PLANE_COORDINATE)) }
+        ensures unknown_id { IfErr result (IsUnknown self.now id) }
     {
         Ok(self.lane(id)?.direction_at(point))
     }
 
     /// The ids of the known lanelets that follow the one with the id, in document order.
+    ///
+    /// It fails with `UnknownLanelet` where no lanelet has the id.
     pub fn successors(&self, id: u64) -> Result<&[u64], NetworkFault>
-        ensures value { IfOk result (λ ids. IsOfLanelet self.now id (λ lane. ids.now ≡ lane.successors)) }
-        ensures unknown { IfErr result (IsUnknown self.now id) }
+        ensures value { IfOk result (λ ids.
+            IsOfLanelet self.now id (λ lane. ids.now ≡ lane.successors)) }
+        ensures unknown_id { IfErr result (IsUnknown self.now id) }
     {
         Ok(self.lane(id)?.successors())
     }
 
-    /// The place of the lanelet with the id, counted from 0.
+    /// The place of the lanelet with the id in document order, counted from 0.
+    ///
+    /// It fails with `UnknownLanelet` where no lanelet has the id.
     pub fn index_of(&self, id: u64) -> Result<u32, NetworkFault>
         ensures within { IfOk result (λ index. index < length self.now) }
-        ensures below { IfOk result (λ index. index < 4000) }
+        ensures below { IfOk result (λ index. index < MAX_LANELETS) }
         ensures value { IfOk result (λ index. slice_index (lane_ids self.now) index ≡ id) }
         ensures first { IfOk result (λ index. position (has_id id) self.now ≡ Some index) }
-        ensures unknown { IfErr result (IsUnknown self.now id) }
+        ensures unknown_id { IfErr result (IsUnknown self.now id) }
         ensures nowhere { IfErr result (λ _. position (has_id id) self.now ≡ None) }
     {
         let place = self.place(id)?;
@@ -136,7 +158,7 @@ impl Network {
         lane.id()
     }
 
-    /// Whether there is a lanelet at the index, and its polygon holds the point.
+    /// Whether there is a lanelet at the index, and its closed polygon holds the point.
     #[tactic(auto, unfolding(crate::specs::Lanes::holds_at))]
     pub fn holds_at(&self, index: u32, point: Point) -> bool
         requires { IsInRange point }
@@ -159,7 +181,7 @@ impl Network {
     // Whether each lanelet that holds the point leads more back than ahead there.
     fn all_oppose(&self, point: Point, ahead: Point) -> bool
         requires point { IsInRange point }
-        requires ahead { IsWithin 1_000_000 ahead }
+        requires ahead { IsWithin MICROS_PER_UNIT ahead }
         ensures { result ≡ list_all (does_oppose_if_holding point ahead) self.now }
     {
         self.lanes
@@ -167,11 +189,11 @@ impl Network {
             .all(|lane| lane.opposes_if_holding(point, ahead))
     }
 
-    /// How many lanelets hold the point.
+    /// How many lanelets hold the point, at most `MAX_LANELETS`.
     pub fn count_at(&self, point: Point) -> u32
         requires { IsInRange point }
         ensures value { result ≡ count_of self.now point }
-        ensures few { result ≤ 4000 }
+        ensures few { result ≤ MAX_LANELETS }
     {
         let mut count = 0;
         for lane in &self.lanes {
@@ -182,13 +204,14 @@ impl Network {
         count
     }
 
-    /// Whether some lanelet holds the point, and in each that does the way ahead has a negative dot product with the lanelet's direction.
+    /// Whether some lanelet holds the point, and in each that does the way ahead has a negative dot
+    /// product with the lanelet's direction.
     ///
-    /// The heading is in microradians, at most 4 * 10^9 in size.
+    /// The heading is in microradians, at most `MAX_ANGLE` in size.
     #[tactic(auto, unfolding(crate::specs::Lanes::is_against))]
     pub fn against(&self, point: Point, heading: i64) -> bool
         requires point { IsInRange point }
-        requires heading { unsigned_abs heading ≤ 4 * 10 ^ 9 }
+        requires heading { unsigned_abs heading ≤ MAX_ANGLE }
         ensures value { result ≡ is_against self.now point heading }
     {
         self.is_held(point) && self.all_oppose(point, direction(heading))

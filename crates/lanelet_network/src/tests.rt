@@ -1,7 +1,10 @@
-ghost use Rattle.std.specs.Prelude.{◌≡◌, ◌<◌, ◌≤◌, ◌^◌, List as Items, length, map, ℕ, All, IfOk};
+ghost use Rattle.std.specs.Prelude.{◌≡◌, ◌<◌, ◌≤◌, List as Items, length, map, ℕ, All, IfOk};
 ghost use Rattle.fixed_geometry.specs.Plane.{IsInRange};
 ghost use Rattle.scenario_model.specs.declared.lanelet.Lanelet.{Lanelet as Piece};
-ghost use Rattle.scenario_model.specs.Scenario.{IsRead, IsBound, IsLanelet, IsProblem, IsScenario, HaveDifferentIds};
+ghost use Rattle.scenario_model.specs.Scenario.{IsRead, IsBound, IsLanelet, IsProblem};
+ghost use Rattle.scenario_model.specs.Scenario.{IsScenario, HaveDifferentIds};
+ghost use Rattle.scenario_model.specs.declared.limits.TheConstants.{MAX_LANELETS, PAST_IDS};
+ghost use Rattle.scenario_model.specs.declared.limits.TheConstants.{MAX_BOUND_POINTS};
 
 use crate::{Network, NetworkFault};
 use fixed_geometry::Point;
@@ -24,7 +27,7 @@ fn at(x: i32, y: i32) -> Point
 
 fn bound(alloc: Global, points: &[(i32, i32)]) -> Result<List<Point>, NoMemory>
     requires enough { 2 ≤ length points.now }
-    requires few { length points.now ≤ 2048 }
+    requires few { length points.now ≤ MAX_BOUND_POINTS }
     ensures { IfOk result IsBound }
 {
     let mut bound = List::new(alloc);
@@ -48,7 +51,7 @@ fn segment(alloc: Global, from: Point, to: Point) -> Result<List<Point>, NoMemor
 // Points that are 10 apart.
 fn row(alloc: Global, count: u16, y: i32) -> Result<List<Point>, NoMemory>
     requires enough { 2 ≤ count }
-    requires few { count ≤ 2048 }
+    requires few { count ≤ MAX_BOUND_POINTS }
     ensures { IfOk result IsBound }
 {
     let mut bound = List::new(alloc);
@@ -83,7 +86,7 @@ fn problem(alloc: Global) -> Result<Problem, NoMemory>
 }
 
 fn scenario(alloc: Global, lanelets: List<Lanelet>) -> Result<Scenario, NoMemory>
-    requires few { length lanelets ≤ 4000 }
+    requires few { length lanelets ≤ MAX_LANELETS }
     requires each { All (IsLanelet (map (λ (l : Piece). l.id) lanelets)) lanelets }
     requires different { HaveDifferentIds (λ (l : Piece). l.id) lanelets }
     ensures well_formed { IfOk result IsScenario }
@@ -102,7 +105,7 @@ fn scenario(alloc: Global, lanelets: List<Lanelet>) -> Result<Scenario, NoMemory
 
 // The network of one lanelet, which has no neighbour.
 fn alone(alloc: Global, id: u64, left: List<Point>, right: List<Point>) -> Result<Network, Fail>
-    requires id { id < 10 ^ 18 }
+    requires id { id < PAST_IDS }
     requires left { IsBound left }
     requires right { IsBound right }
     ensures { IfOk result (λ network. length network ≡ 1) }
@@ -159,27 +162,42 @@ fn two_that_meet(alloc: Global) -> Result<Network, Fail>
     Ok(Network::new(alloc, &scenario(alloc, lanelets)?)?)
 }
 
+// A lanelet as far away as those of a map in meters are.
+fn far_away(alloc: Global) -> Result<Network, Fail>
+    ensures { IfOk result (λ network. length network ≡ 1) }
+{
+    let (from, to) = (6_899_500_000, 6_901_000_000);
+    let (high, low) = (53_340_025_000, 53_339_985_000);
+    let left = segment(alloc, Point { x: from, y: high }, Point { x: to, y: high })?;
+    let right = segment(alloc, Point { x: from, y: low }, Point { x: to, y: low })?;
+    alone(alloc, 1, left, right)
+}
+
+// A lanelet whose left bound turns to the left.
+fn bent(alloc: Global) -> Result<Network, Fail>
+    ensures { IfOk result (λ network. length network ≡ 1) }
+{
+    let left = bound(alloc, &[(0, 0), (100, 0), (100, 100)])?;
+    let right = bound(alloc, &[(0, -100), (200, -100), (200, 100)])?;
+    alone(alloc, 1, left, right)
+}
+
 #[test]
 fn a_lanelet_holds_its_border(rt: HostRuntime) -> Result<(), Fail> {
     let network = straight(rt.alloc())?;
-    let rows = [
+    for (x, y, is_held) in [
         (0, 0, true),
         (0, 20_000, true),
         (0, 20_001, false),
         (1_500_000, -20_000, true),
         (-500_001, 0, false),
-    ];
-    for (x, y, is_held) in rows {
+    ] {
         let point = at(x, y);
         assert_eq!(rt; network.holds(1, point)?, is_held);
         assert_eq!(rt; network.count_at(point), u32::from(is_held));
+        assert_eq!(rt; network.against(point, HALF_TURN), is_held);
+        assert!(rt; !network.against(point, 0));
     }
-    Ok(())
-}
-
-#[test]
-fn an_id_that_no_lanelet_has_is_unknown(rt: HostRuntime) -> Result<(), Fail> {
-    let network = straight(rt.alloc())?;
     let fault = Some(NetworkFault::UnknownLanelet);
     assert_eq!(rt; network.holds(7, at(0, 0)).err(), fault);
     assert_eq!(rt; network.direction_at(7, at(0, 0)).err(), fault);
@@ -190,47 +208,7 @@ fn an_id_that_no_lanelet_has_is_unknown(rt: HostRuntime) -> Result<(), Fail> {
 }
 
 #[test]
-fn a_lanelet_may_lie_far_away(rt: HostRuntime) -> Result<(), Fail> {
-    let alloc = rt.alloc();
-    let left = segment(
-        alloc,
-        Point {
-            x: 6_899_500_000,
-            y: 53_340_025_000,
-        },
-        Point {
-            x: 6_901_000_000,
-            y: 53_340_025_000,
-        },
-    )?;
-    let right = segment(
-        alloc,
-        Point {
-            x: 6_899_500_000,
-            y: 53_339_985_000,
-        },
-        Point {
-            x: 6_901_000_000,
-            y: 53_339_985_000,
-        },
-    )?;
-    let network = alone(alloc, 1, left, right)?;
-    let point = Point {
-        x: 6_900_001_234,
-        y: 53_340_005_000,
-    };
-    assert_eq!(rt; network.count_at(point), 1);
-    assert_eq!(rt; network.direction_at(1, point)?, at(1_500_000, 0));
-    assert_eq!(rt; network.successors(1)?.len(), 0);
-    assert_eq!(rt;
-        network.successors(7).err(),
-        Some(NetworkFault::UnknownLanelet)
-    );
-    Ok(())
-}
-
-#[test]
-fn lanelets_have_places_and_successors(rt: HostRuntime) -> Result<(), Fail> {
+fn lanelets_have_places_successors_and_headings(rt: HostRuntime) -> Result<(), Fail> {
     let network = two_that_meet(rt.alloc())?;
     assert_eq!(rt; network.index_of(4)?, 0);
     assert_eq!(rt; network.index_of(9)?, 1);
@@ -238,25 +216,14 @@ fn lanelets_have_places_and_successors(rt: HostRuntime) -> Result<(), Fail> {
     assert_eq!(rt; network.id_at(1), 9);
     assert_eq!(rt; network.successors(4)?, [9].as_slice());
     assert_eq!(rt; network.successors(9)?.len(), 0);
-    assert_eq!(rt; network.count_at(at(1_000, 0)), 2);
-    Ok(())
-}
-
-#[test]
-fn a_heading_is_against_all_lanelets_that_hold_the_point(rt: HostRuntime) -> Result<(), Fail> {
-    let one = straight(rt.alloc())?;
-    assert!(rt; one.against(at(0, 0), HALF_TURN));
-    assert!(rt; !one.against(at(0, 0), 0));
-    assert!(rt; !one.against(at(0, 20_001), HALF_TURN));
-    let two = two_that_meet(rt.alloc())?;
-    let rows = [
-        (500, true, false),
-        (1_000, false, false),
-        (1_500, false, true),
-    ];
-    for (x, back, ahead) in rows {
-        assert_eq!(rt; two.against(at(x, 0), HALF_TURN), back);
-        assert_eq!(rt; two.against(at(x, 0), 0), ahead);
+    for (x, count, back, ahead) in [
+        (500, 1, true, false),
+        (1_000, 2, false, false),
+        (1_500, 1, false, true),
+    ] {
+        assert_eq!(rt; network.count_at(at(x, 0)), count);
+        assert_eq!(rt; network.against(at(x, 0), HALF_TURN), back);
+        assert_eq!(rt; network.against(at(x, 0), 0), ahead);
     }
     Ok(())
 }
@@ -265,29 +232,34 @@ fn a_heading_is_against_all_lanelets_that_hold_the_point(rt: HostRuntime) -> Res
 fn the_first_nearest_point_of_the_left_bound_gives_the_direction(
     rt: HostRuntime,
 ) -> Result<(), Fail> {
-    let alloc = rt.alloc();
-    let left = bound(alloc, &[(0, 0), (100, 0), (100, 100)])?;
-    let right = bound(alloc, &[(0, -100), (200, -100), (200, 100)])?;
-    let network = alone(alloc, 1, left, right)?;
-    let rows = [
+    let network = bent(rt.alloc())?;
+    for (x, y, dx, dy) in [
         (0, 0, 100, 0),
         (50, 0, 100, 0),
         (51, 0, 0, 100),
         (100, 50, 0, 100),
         (100, 100, 0, 100),
-    ];
-    for (x, y, dx, dy) in rows {
+    ] {
         assert_eq!(rt; network.direction_at(1, at(x, y))?, at(dx, dy));
     }
     Ok(())
 }
 
 #[test]
-fn a_bound_may_have_2048_points(rt: HostRuntime) -> Result<(), Fail> {
+fn lanelets_may_lie_far_away_and_have_2048_points(rt: HostRuntime) -> Result<(), Fail> {
     let alloc = rt.alloc();
-    let network = alone(alloc, 1, row(alloc, 2_048, 10)?, row(alloc, 2_048, -10)?)?;
-    assert_eq!(rt; network.count_at(at(20_470, 0)), 1);
-    assert_eq!(rt; network.count_at(at(20_471, 0)), 0);
-    assert_eq!(rt; network.direction_at(1, at(30_000, 0))?, at(10, 0));
+    let far = far_away(alloc)?;
+    let point = Point {
+        x: 6_900_001_234,
+        y: 53_340_005_000,
+    };
+    assert_eq!(rt; far.count_at(point), 1);
+    assert_eq!(rt; far.direction_at(1, point)?, at(1_500_000, 0));
+    assert_eq!(rt; far.successors(1)?.len(), 0);
+    assert_eq!(rt; far.successors(7).err(), Some(NetworkFault::UnknownLanelet));
+    let long = alone(alloc, 1, row(alloc, 2_048, 10)?, row(alloc, 2_048, -10)?)?;
+    assert_eq!(rt; long.count_at(at(20_470, 0)), 1);
+    assert_eq!(rt; long.count_at(at(20_471, 0)), 0);
+    assert_eq!(rt; long.direction_at(1, at(30_000, 0))?, at(10, 0));
     Ok(())
 }

@@ -9,7 +9,7 @@ use Rattle.violation_measures.specs.Sources.{Features}
 use Rattle.violation_measures.specs.Steps.{finish}
 use Rattle.violation_measures.specs.Vectors.{width, step_vector, end_vector, run, trajectory_vector, IsUpTo}
 use Rattle.violation_measures.specs.declared.bound.Bound.{Bound}
-use Rattle.violation_measures.specs.declared.bound.adding.TheConstants.{MAX_AMOUNT}
+use Rattle.violation_measures.specs.declared.amount.TheConstants.{MAX_AMOUNT}
 use Rattle.violation_measures.specs.declared.step.Step.{Step}
 use Rattle.maneuver_lattice.specs.Driving.{standing, step_at, start_step, end_step, steps_of, steps_from, trajectory}
 use Rattle.maneuver_lattice.specs.Goals.{is_goal, IsAtGoal}

@@ -11,7 +11,7 @@ use Rattle.violation_measures.specs.Binding.{IsBoundTo}
 use Rattle.violation_measures.specs.Sources.{Features}
 use Rattle.violation_measures.specs.Vectors.{width, step_vector, run}
 use Rattle.violation_measures.specs.declared.bound.Bound.{Bound}
-use Rattle.violation_measures.specs.declared.bound.adding.TheConstants.{MAX_AMOUNT}
+use Rattle.violation_measures.specs.declared.amount.TheConstants.{MAX_AMOUNT}
 use Rattle.violation_measures.specs.declared.step.Step.{Step}
 use Rattle.violation_measures.proofs.VectorLaws.{run_one, run_more, step_up_to}
 use Rattle.maneuver_lattice.specs.Driving.{step_at, steps_of}

@@ -1,11 +1,12 @@
--- A scene as a graph of states, and what trajectories amount to by the rules of a book. This project's own, for the rulebooks of Censi and others, 2019.
+-- A scene as a graph of states, and what trajectories amount to by the rules of a book. This
+-- project's own, for the rulebooks of Censi and others, 2019.
 use Rattle.std.specs.Prelude.{◌≡◌, ◌↔◌, ℕ, List}
 use Rattle.rule_language.specs.declared.book.Book.{Book}
 use Rattle.rulebook_order.specs.Graph.{Graph, Reaches, Attains}
 use Rattle.violation_measures.specs.Sources.{Features}
 use Rattle.violation_measures.specs.Vectors.{width, step_vector, end_vector, run, trajectory_vector}
 use Rattle.violation_measures.specs.declared.bound.Bound.{Bound}
-use Rattle.violation_measures.specs.declared.bound.adding.TheConstants.{MAX_AMOUNT}
+use Rattle.violation_measures.specs.declared.amount.TheConstants.{MAX_AMOUNT}
 use Rattle.maneuver_lattice.specs.Driving.{start_step, end_step, steps_of, trajectory}
 use Rattle.maneuver_lattice.specs.Goals.{is_goal, IsAtGoal}
 use Rattle.maneuver_lattice.specs.Scenes.{Scene, start, choices, next, Leads}
@@ -29,7 +30,8 @@ scene_graph scene f bound = record {
 
 -- ---- in the words of the subject
 
--- the choices apply one after the other from the start, and the state in which they end meets a goal of the problem
+-- the choices apply one after the other from the start, and the state in which they end meets a
+-- goal of the problem
 pub record IsLatticeTrajectory (scene : Scene) (list : List ℕ) : Type 0 where
   pub state : LatticeState
   pub leads : Leads scene (start scene) list state
@@ -41,18 +43,17 @@ pub record IsDriven (scene : Scene) (f : Features) (bound : Bound) (vector : Lis
   pub drives : IsLatticeTrajectory scene list
   pub vector_is : vector ≡ trajectory_vector f bound (trajectory scene list)
 
--- some list of choices leads to the state, and its steps up to there amount to the vector
-pub record IsRun (scene : Scene) (f : Features) (bound : Bound) (state : LatticeState) (vector : List ℕ) : Type 0 where
-  pub list : List ℕ
-  pub leads : Leads scene (start scene) list state
-  pub vector_is : vector ≡ run f bound (trajectory scene list)
-
 -- a list of choices reaches in the graph just what it leads to, with what its steps amount to
 abbrev pub ReachesItsSteps : Scene → Features → Bound → Type 0
 ReachesItsSteps scene f bound =
-    (list : List ℕ) (state : LatticeState) (vector : List ℕ) → Reaches (scene_graph scene f bound) list state vector ↔ (Leads scene (start scene) list state × (vector ≡ run f bound (trajectory scene list)))
+    (list : List ℕ) (state : LatticeState) (vector : List ℕ)
+    → Reaches (scene_graph scene f bound) list state vector
+    ↔ (Leads scene (start scene) list state × (vector ≡ run f bound (trajectory scene list)))
 
--- a list of choices ends at a goal of the graph just where it is a lattice trajectory, with that trajectory's violation vector
+-- a list of choices ends at a goal of the graph just where it is a lattice trajectory, with that
+-- trajectory's violation vector
 abbrev pub AttainsItsVector : Scene → Features → Bound → Type 0
 AttainsItsVector scene f bound =
-    (list vector : List ℕ) → Attains (scene_graph scene f bound) list vector ↔ (IsLatticeTrajectory scene list × (vector ≡ trajectory_vector f bound (trajectory scene list)))
+    (list vector : List ℕ) → Attains (scene_graph scene f bound) list vector
+    ↔ (IsLatticeTrajectory scene list × (vector ≡ trajectory_vector f bound
+    (trajectory scene list)))

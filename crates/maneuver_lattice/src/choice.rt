@@ -30,7 +30,8 @@ pub fn count_open(maneuvers: &[Maneuver], horizon: u32, state: &LatticeState) ->
 pub fn open_at(maneuvers: &[Maneuver], horizon: u32, state: &LatticeState, choice: usize) -> usize
     requires tick { state.now.tick ≤ horizon }
     requires choice { choice < length (places_from (is_open horizon state.now) 0 maneuvers.now) }
-    ensures { result ≡ slice_index (places_from (is_open horizon state.now) 0 maneuvers.now) choice }
+    ensures { result ≡ slice_index
+        (places_from (is_open horizon state.now) 0 maneuvers.now) choice }
 {
     let mut left = choice;
     for i in 0..maneuvers.len() {
@@ -58,7 +59,8 @@ pub fn open_named(
     name: &[u8],
 ) -> Option<usize>
     requires { state.now.tick ≤ horizon }
-    ensures { result ≡ position (is_named name.now) (filter (is_open horizon state.now) maneuvers.now) }
+    ensures { result ≡ position (is_named name.now)
+        (filter (is_open horizon state.now) maneuvers.now) }
 {
     maneuvers
         .iter()

@@ -1,4 +1,5 @@
-ghost use Rattle.std.specs.Prelude.{◌≡◌, ◌+◌, ◌<◌, ◌≤◌, false, length, Some, None, IfOk, IfErr, IfSome, IsNone};
+ghost use Rattle.std.specs.Prelude.{◌≡◌, ◌+◌, ◌<◌, ◌≤◌, false, length, Some, None, IfOk, IfErr};
+ghost use Rattle.std.specs.Prelude.{IfSome, IsNone};
 ghost use Rattle.std.specs.List.{list_any};
 ghost use Rattle.lanelet_network.specs.Lanes.{lane_ids};
 ghost use Rattle.scenario_model.specs.Scenario.{IsPose, IsProblem};
@@ -26,16 +27,20 @@ pub struct SceneMoves<'a> {
     problem: &'a Problem,
     class: u32,
     pub ghost well_formed: { IsLattice lattice.now },
-    pub ghost starts: { start_class lattice.now problem.now.start.speed ≡ Some class } by { Prim.hlevel props },
+    pub ghost starts: { start_class lattice.now problem.now.start.speed
+        ≡ Some class } by { Prim.hlevel props },
     pub ghost pose: { IsPose problem.now.start },
     pub ghost shapes: { GoalsHaveShapes problem.now } by { shapes_prop problem.now },
 }
 
 impl<'a> SceneMoves<'a> {
     ghost use Rattle.maneuver_lattice.specs.Moves.{scene_of};
-    ghost use Rattle.maneuver_lattice.specs.Scenes.{start, choices, maneuver_of, chosen, next, IsReached, IsOnLattice, IsChosen, choice_named, IsNamedChoice, HasNoChoice};
+    ghost use Rattle.maneuver_lattice.specs.Scenes.{start, choices, maneuver_of, chosen, next};
+    ghost use Rattle.maneuver_lattice.specs.Scenes.{IsReached, IsOnLattice, IsChosen, choice_named};
+    ghost use Rattle.maneuver_lattice.specs.Scenes.{IsNamedChoice, HasNoChoice};
 
-    /// The moves over a lattice that is well formed, for a problem that is well formed among the lanelets of the network.
+    /// The moves over a lattice that is well formed, for a problem that is well formed among the
+    /// lanelets of the network.
     pub fn new(
         lattice: &'a Lattice,
         network: &'a Network,
@@ -43,10 +48,16 @@ impl<'a> SceneMoves<'a> {
     ) -> Result<SceneMoves<'a>, LatticeFault>
         requires lattice { IsLattice lattice.now }
         requires problem { IsProblem (lane_ids network.now) problem.now }
-        ensures scene { IfOk result (λ moves. scene_of moves ≡ record { lattice = lattice.now; lanes = network.now; problem = problem.now }) }
-        ensures starts { IfOk result (λ moves. start_class lattice.now problem.now.start.speed ≡ Some (start (scene_of moves)).class) }
-        ensures none { IfErr result (λ fault. start_class lattice.now problem.now.start.speed ≡ None) }
-        ensures refused { IfErr result (λ fault. (fault ≡ LatticeFault.NoStartClass) × (list_any (may_start lattice.now.tolerance problem.now.start.speed) lattice.now.classes ≡ false)) }
+        ensures scene { IfOk result (λ moves. scene_of moves
+            ≡ record { lattice = lattice.now; lanes = network.now; problem = problem.now }) }
+        ensures starts { IfOk result (λ moves. start_class lattice.now problem.now.start.speed
+            ≡ Some (start (scene_of moves)).class) }
+        ensures none { IfErr result (λ fault. start_class lattice.now problem.now.start.speed
+            ≡ None) }
+        ensures refused { IfErr result (λ fault. (fault ≡ LatticeFault.NoStartClass)
+            × (list_any
+            (may_start lattice.now.tolerance problem.now.start.speed) lattice.now.classes
+            ≡ false)) }
     {
         match start_class(lattice, problem.start.speed) {
             Some(class) => Ok(SceneMoves {
@@ -146,7 +157,8 @@ impl<'a> SceneMoves<'a> {
         ensures value { result.now ≡ chosen (scene_of self.now) state.now choice }
         ensures sound { IsManeuver (scene_of self.now).lattice.classes result.now }
         ensures on { IsOnLattice (scene_of self.now).lattice state.now }
-        ensures in_time { state.now.tick + length result.now.steps ≤ (scene_of self.now).lattice.horizon }
+        ensures in_time { state.now.tick + length result.now.steps
+            ≤ (scene_of self.now).lattice.horizon }
     {
         let place = self.place(state, choice);
         &self.lattice.maneuvers.as_slice()[place]

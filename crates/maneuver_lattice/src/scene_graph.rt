@@ -1,4 +1,5 @@
-ghost use Rattle.std.specs.Prelude.{◌≡◌, ◌<◌, ◌*◌, length, false, Some, None, IfOk, IfErr, IfSome, IsNone};
+ghost use Rattle.std.specs.Prelude.{◌≡◌, ◌<◌, ◌*◌, length, false, Some, None, IfOk, IfErr, IfSome};
+ghost use Rattle.std.specs.Prelude.{IsNone};
 ghost use Rattle.std.specs.List.{list_any};
 ghost use Rattle.lanelet_network.specs.Lanes.{lane_ids};
 ghost use Rattle.scenario_model.specs.Scenario.{IsProblem};
@@ -10,7 +11,6 @@ ghost use Rattle.maneuver_lattice.specs.Moves.{scene_of};
 ghost use Rattle.maneuver_lattice.specs.SceneGraphs.{scene_graph};
 ghost use Rattle.rulebook_order.specs.Sums.{sums};
 ghost use Rattle.violation_measures.specs.Vectors.{run, width};
-ghost use Rattle.violation_measures.specs.declared.bound.adding.TheConstants.{MAX_AMOUNT as MOST};
 
 use crate::fault::LatticeFault;
 use crate::lattice::Lattice;
@@ -23,23 +23,28 @@ use scenario_model::Problem;
 use std::sync::ledger::Ledger;
 use violation_measures::{Bound, FeatureSource, MAX_AMOUNT};
 
-/// The graph of a scene: the states of a lattice of maneuvers, with what the steps between them amount to by the rules of a book that is bound to a source of features.
+/// The graph of a scene: the states of a lattice of maneuvers, with what the steps between them
+/// amount to by the rules of a book that is bound to a source of features.
 #[derive(Drop)]
 pub struct SceneGraph<'a, S: FeatureSource> {
     moves: SceneMoves<'a>,
     bound: &'a Bound,
     source: &'a S,
     pub ghost bound_to: { IsBoundTo (S.features source.now) bound.now },
-    pub ghost lawful: { IsStepGraph (scene_graph (scene_of moves) (S.features source.now) bound.now) },
+    pub ghost lawful: { IsStepGraph (scene_graph (scene_of moves)
+        (S.features source.now) bound.now) },
 }
 
 impl<'a, S: FeatureSource> SceneGraph<'a, S> {
-    ghost use Rattle.maneuver_lattice.specs.Scenes.{start, choices, maneuver_of, choice_named, IsReached, IsNamedChoice, HasNoChoice};
+    ghost use Rattle.maneuver_lattice.specs.Scenes.{start, choices, maneuver_of, choice_named};
+    ghost use Rattle.maneuver_lattice.specs.Scenes.{IsReached, IsNamedChoice, HasNoChoice};
     ghost use Rattle.maneuver_lattice.specs.Driving.{steps_of};
 
-    /// The graph over a well-formed lattice, for a problem that is well formed among the lanelets of the network. The book is bound to the source, or to one that is alike.
+    /// The graph over a well-formed lattice, for a problem that is well formed among the lanelets
+    /// of the network. The book is bound to the source, or to one that is alike.
     ///
-    /// `NoStartClass` exactly where no class has heading 0 and a speed within the tolerance of the problem's. No memory is taken.
+    /// `NoStartClass` exactly where no class has heading 0 and a speed within the tolerance of the
+    /// problem's. No memory is taken.
     pub fn new(
         lattice: &'a Lattice,
         bound: &'a Bound,
@@ -50,12 +55,18 @@ impl<'a, S: FeatureSource> SceneGraph<'a, S> {
         requires lattice { IsLattice lattice.now }
         requires bound { IsBoundTo (S.features source.now) bound.now }
         requires problem { IsProblem (lane_ids network.now) problem.now }
-        ensures scene { IfOk result (λ graph. scene_of graph.moves ≡ record { lattice = lattice.now; lanes = network.now; problem = problem.now }) }
+        ensures scene { IfOk result (λ graph. scene_of graph.moves
+            ≡ record { lattice = lattice.now; lanes = network.now; problem = problem.now }) }
         ensures bound { IfOk result (λ graph. graph.bound.now ≡ bound.now) }
         ensures source { IfOk result (λ graph. graph.source.now ≡ source.now) }
-        ensures starts { IfOk result (λ graph. start_class lattice.now problem.now.start.speed ≡ Some (start (scene_of graph.moves)).class) }
-        ensures none { IfErr result (λ fault. start_class lattice.now problem.now.start.speed ≡ None) }
-        ensures refused { IfErr result (λ fault. (fault ≡ LatticeFault.NoStartClass) × (list_any (may_start lattice.now.tolerance problem.now.start.speed) lattice.now.classes ≡ false)) }
+        ensures starts { IfOk result (λ graph. start_class lattice.now problem.now.start.speed
+            ≡ Some (start (scene_of graph.moves)).class) }
+        ensures none { IfErr result (λ fault. start_class lattice.now problem.now.start.speed
+            ≡ None) }
+        ensures refused { IfErr result (λ fault. (fault ≡ LatticeFault.NoStartClass)
+            × (list_any
+            (may_start lattice.now.tolerance problem.now.start.speed) lattice.now.classes
+            ≡ false)) }
     {
         match SceneMoves::new(lattice, network, problem) {
             Ok(moves) => Ok(SceneGraph {
@@ -99,8 +110,10 @@ impl<'a, S: FeatureSource> SceneGraph<'a, S> {
         requires reached { IsReached (scene_of self.now.moves) state.now }
         requires choice { choice < choices (scene_of self.now.moves) state.now }
         requires width { length cost.old ≡ width self.now.bound.now }
-        requires room { HasRoom (MOST * length (steps_of (scene_of self.now.moves) state.now choice)) cost.old }
-        ensures { cost.new ≡ sums cost.old (run (S.features self.now.source.now) self.now.bound.now (steps_of (scene_of self.now.moves) state.now choice)) }
+        requires room { HasRoom (MAX_AMOUNT * length (steps_of
+            (scene_of self.now.moves) state.now choice)) cost.old }
+        ensures { cost.new ≡ sums cost.old (run (S.features self.now.source.now) self.now.bound.now
+            (steps_of (scene_of self.now.moves) state.now choice)) }
     {
         for j in 0..self.moves.step_count(state, choice) {
             let step = self.moves.step_at(state, choice, j + 1);

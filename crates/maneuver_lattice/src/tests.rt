@@ -1,4 +1,5 @@
-ghost use Rattle.std.specs.Prelude.{◌≡◌, ◌≤◌, ◌<◌, ◌^◌, [], ◌∷◌, IfOk, unsigned_abs, List as Items, ℕ};
+ghost use Rattle.std.specs.Prelude.{◌≡◌, ◌≤◌, ◌<◌, ◌^◌, [], ◌∷◌, IfOk, unsigned_abs, List as Items};
+ghost use Rattle.std.specs.Prelude.{ℕ};
 ghost use Rattle.scenario_model.specs.Scenario.{IsProblem, IsScenario};
 
 use crate::{LatticeFault, LatticeKind, SceneMoves, read_lattice};
@@ -249,7 +250,8 @@ fn a_step_is_six_numbers_in_their_ranges(rt: HostRuntime) -> Result<(), Fail> {
     Ok(())
 }
 
-// A lattice of so many classes and so many maneuvers of so many steps. Each class has so many maneuvers from it, while there are any.
+// A lattice of so many classes and so many maneuvers of so many steps. Each class has so many
+// maneuvers from it, while there are any.
 fn lattice_text(
     alloc: Global,
     classes: usize,
@@ -343,7 +345,8 @@ fn scenario(alloc: Global, problem: Problem) -> Result<Scenario, NoMemory>
     })
 }
 
-// Whether a vehicle of the speed has a start over the lattice, and whether `p` leads it to a goal in the span.
+// Whether a vehicle of the speed has a start over the lattice, and whether `p` leads it to a goal
+// in the span.
 fn drive(alloc: Global, speed: i32, heading: Span) -> Result<(bool, bool), Fail>
     requires speed { unsigned_abs speed ≤ 10 ^ 6 }
     requires low { unsigned_abs heading.low ≤ 10 ^ 9 }

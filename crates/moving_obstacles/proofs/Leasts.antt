@@ -1,31 +1,22 @@
 -- The least number of a list, one item further.
-use Rattle.std.proofs.Common.{◌≡◌, ℕ, ◌+◌, ◌<◌, List, [], ◌∷◌, ◌++◌, length, get_or, take, sym, ap, ◌∙◌, rules, ℤ, true, pos, ◌<ℤ◌, unsigned_abs}
+use Rattle.std.proofs.Common.{◌≡◌, ℕ, ◌+◌, ◌<◌, List, [], ◌∷◌, length, get_or, take, sym, ap, ◌∙◌, rules, ℤ, true, pos, ◌<ℤ◌, unsigned_abs}
 use Rattle.std.specs.Prelude.{map, Some, int_lt, int_le}
-use Rattle.std.specs.List.{fold, flat_map}
+use Rattle.std.specs.List.{fold}
 use Rattle.std.specs.Int.{int_min}
-use Rattle.std.proofs.lemmas.List.{take_more, map_more}
-use Rattle.std.proofs.lemmas.List.Concat.{flat_map-cons}
+use Rattle.std.proofs.lemmas.List.{map_more}
 use Rattle.std.proofs.lemmas.List.Sums.{fold-append}
-use Rattle.std.proofs.lemmas.Grind.{flat_map-append}
 use Rattle.std.proofs.lemmas.Int.{fold-int_min_bounds, fold-int_min_reached}
 use Rattle.fixed_geometry.specs.declared.point.Box2.{Box2}
 use Rattle.fixed_geometry.specs.declared.point.Point.{Point}
 use Rattle.scenario_model.specs.declared.obstacle.Obstacle.{Obstacle}
 use Rattle.scenario_model.specs.declared.obstacle.Pose.{Pose}
 use Rattle.moving_obstacles.specs.Nearness.{along, side, is_ahead, distances, least, IsLeast, all_gaps, nearest_gap, all_distances, headway}
+use Rattle.moving_obstacles.specs.declared.limits.TheConstants.{MAX_DISTANCE}
 
 pub least_more : {X : Type 0} (f : X → ℤ) (xs : List X) (i : ℕ) (d : X) (a m v r : ℤ) → i < length xs → m ≡ fold int_min a (map f (take i xs)) → v ≡ f (get_or xs i d) → r ≡ int_min m v → r ≡ fold int_min a (map f (take (i + 1) xs))
 least_more f xs i d a m v r h before here e =
     let split : fold int_min a (map f (take (i + 1) xs)) ≡ int_min (fold int_min a (map f (take i xs))) (f (get_or xs i d)) = ap (fold int_min a) (map_more f xs i d h) ∙ fold-append int_min a (map f (take i xs)) (f (get_or xs i d) ∷ []) in
     e ∙ ap (λ (z : ℤ). int_min z v) before ∙ ap (int_min (fold int_min a (map f (take i xs)))) here ∙ sym split
-
-pub leasts_more : {X : Type 0} (f : X → List ℤ) (xs : List X) (i : ℕ) (d x : X) (a m r : ℤ) → i < length xs → m ≡ fold int_min a (flat_map f (take i xs)) → x ≡ get_or xs i d → r ≡ fold int_min m (f x) → r ≡ fold int_min a (flat_map f (take (i + 1) xs))
-leasts_more {X = X} f xs i d x a m r h before here e =
-    let y = get_or xs i d in
-    let split : flat_map f (take (i + 1) xs) ≡ flat_map f (take i xs) ++ flat_map f (y ∷ []) = ap (flat_map f) (take_more xs i d h) ∙ flat_map-append f (take i xs) (y ∷ []) in
-    let last : fold int_min m (flat_map f (y ∷ [])) ≡ fold int_min m (f y) = ap (fold int_min m) (flat_map-cons f y []) ∙ fold-append int_min m (f y) [] in
-    let whole : fold int_min a (flat_map f (take (i + 1) xs)) ≡ fold int_min m (flat_map f (y ∷ [])) = ap (fold int_min a) split ∙ fold-append int_min a (flat_map f (take i xs)) (flat_map f (y ∷ [])) ∙ ap (λ (z : ℤ). fold int_min z (flat_map f (y ∷ []))) (sym before) in
-    e ∙ ap (λ (z : X). fold int_min m (f z)) here ∙ sym last ∙ sym whole
 
 -- a pose that is ahead gives its distance alone
 pub distance_there : (position unit : Point) (width : ℤ) (pose : Pose) (m r : ℤ) → pos 0 <ℤ along position unit pose → int_le (pos (unsigned_abs (side position unit pose))) width ≡ true → r ≡ int_min m (along position unit pose) → r ≡ fold int_min m (distances position unit width (Some pose))
@@ -38,8 +29,8 @@ distance_there position unit width pose m r h k e =
 least_is : (numbers : List ℤ) (r : ℤ) → r ≡ least numbers → IsLeast numbers r
 unfolding least
 least_is numbers r e =
-    let bounds = fold-int_min_bounds (pos 10000000) numbers r e in
-    record { most = bounds.0; below = bounds.1; reached = fold-int_min_reached (pos 10000000) numbers r e }
+    let bounds = fold-int_min_bounds MAX_DISTANCE numbers r e in
+    record { most = bounds.0; below = bounds.1; reached = fold-int_min_reached MAX_DISTANCE numbers r e }
 
 pub nearest_gap_is : (obstacles : List Obstacle) (ego : Box2) (tick : ℕ) (r : ℤ) → r ≡ nearest_gap obstacles ego tick → IsLeast (all_gaps obstacles ego tick) r
 unfolding nearest_gap

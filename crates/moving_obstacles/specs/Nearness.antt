@@ -1,15 +1,18 @@
 -- How many obstacles meet a polygon at a tick, and how near the obstacles are: this project's own.
-use Rattle.std.specs.Prelude.{◌≡◌, ◌⊎◌, ◌≤ℤ◌, All, Contains, ℕ, Bool, false, if◌then◌else◌, ◌&&◌, ℤ, pos, ◌+ℤ◌, ◌-ℤ◌, ◌*ℤ◌, int_lt, int_le, unsigned_abs, List, [], ◌∷◌, map, count_by, Option, None, Some}
+use Rattle.std.specs.Prelude.{◌≡◌, ◌⊎◌, ◌≤ℤ◌, All, Contains, ℕ, Bool, false, if◌then◌else◌, ◌&&◌}
+use Rattle.std.specs.Prelude.{ℤ, pos, int_lt, int_le, unsigned_abs, List, [], ◌∷◌, map, count_by}
+use Rattle.std.specs.Prelude.{Option, None, Some}
 use Rattle.std.specs.List.{fold, flat_map, list_any}
 use Rattle.std.specs.Int.{int_min}
 use Rattle.fixed_geometry.specs.declared.point.Point.{Point}
 use Rattle.fixed_geometry.specs.declared.point.Box2.{Box2}
 use Rattle.fixed_geometry.specs.Boxes.{bounds, box_gap}
 use Rattle.fixed_geometry.specs.Polygon.{polygons_meet}
-use Rattle.fixed_geometry.specs.Rounding.{round_div}
 use Rattle.fixed_geometry.specs.Turning.{direction}
+use Rattle.fixed_geometry.specs.Vectors.{ahead, beside}
 use Rattle.scenario_model.specs.declared.obstacle.Obstacle.{Obstacle}
 use Rattle.scenario_model.specs.declared.obstacle.Pose.{Pose}
+use Rattle.moving_obstacles.specs.declared.limits.TheConstants.{MAX_DISTANCE}
 use Rattle.moving_obstacles.specs.Occupancy.{pose_at, occupancy}
 
 -- one of the placed shapes meets the polygon; nothing does where there are none
@@ -21,15 +24,15 @@ is_met ego (Some shapes) = list_any (polygons_meet ego) shapes
 unfoldable pub meeting : List Obstacle → List Point → ℕ → ℕ
 meeting obstacles ego tick = count_by (λ (o : Obstacle). is_met ego (occupancy o tick)) obstacles
 
--- the least of the numbers, and 10^7 at most
+-- the least of the numbers, and `MAX_DISTANCE` at most
 unfoldable pub least : List ℤ → ℤ
-least numbers = fold int_min (pos 10000000) numbers
+least numbers = fold int_min MAX_DISTANCE numbers
 
--- none of the numbers is below it, nor is 10^7, and it is one of these
+-- none of the numbers is below it, nor is `MAX_DISTANCE`, and it is one of these
 pub record IsLeast (numbers : List ℤ) (number : ℤ) : Type 0 where
-  pub most : number ≤ℤ pos 10000000
+  pub most : number ≤ℤ MAX_DISTANCE
   pub below : All (λ n. number ≤ℤ n) numbers
-  pub reached : (number ≡ pos 10000000) ⊎ Contains numbers number
+  pub reached : (number ≡ MAX_DISTANCE) ⊎ Contains numbers number
 
 -- the box gaps to the placed shapes
 unfoldable pub gaps : Box2 → Option (List (List Point)) → List ℤ
@@ -43,30 +46,32 @@ all_gaps obstacles ego tick = flat_map (λ (o : Obstacle). gaps ego (occupancy o
 unfoldable pub nearest_gap : List Obstacle → Box2 → ℕ → ℤ
 nearest_gap obstacles ego tick = least (all_gaps obstacles ego tick)
 
--- how far the pose is from the position along the direction d, which is scaled by 10^6
-unfoldable pub along : Point → Point → Pose → ℤ
-along position d pose =
-    round_div ((pose.position.x -ℤ position.x) *ℤ d.x +ℤ (pose.position.y -ℤ position.y) *ℤ d.y) (pos 1000000)
+-- how far the pose is from the position along the direction d
+abbrev pub along : Point → Point → Pose → ℤ
+along position d pose = ahead position d pose.position
 
 -- how far it is to the left of it
-unfoldable pub side : Point → Point → Pose → ℤ
-side position d pose =
-    round_div ((pose.position.y -ℤ position.y) *ℤ d.x -ℤ (pose.position.x -ℤ position.x) *ℤ d.y) (pos 1000000)
+abbrev pub side : Point → Point → Pose → ℤ
+side position d pose = beside position d pose.position
 
 -- the pose is ahead, and no farther to a side than the width
 unfoldable pub is_ahead : Point → Point → ℤ → Pose → Bool
 is_ahead position d width pose =
-    int_lt (pos 0) (along position d pose) && int_le (pos (unsigned_abs (side position d pose))) width
+    int_lt (pos 0) (along position d pose)
+    && int_le (pos (unsigned_abs (side position d pose))) width
 
 -- the distance to the pose, where it is ahead
 unfoldable pub distances : Point → Point → ℤ → Option Pose → List ℤ
 distances position d width None = []
-distances position d width (Some pose) = if is_ahead position d width pose then along position d pose ∷ [] else []
+distances position d width (Some pose) =
+    if is_ahead position d width pose then along position d pose ∷ [] else []
 
 -- the distances to all obstacles that are ahead at the tick
 unfoldable pub all_distances : List Obstacle → Point → ℤ → ℤ → ℕ → List ℤ
 all_distances obstacles position heading width tick =
-    flat_map (λ (o : Obstacle). distances position (direction heading) width (pose_at o tick)) obstacles
+    let unit = direction heading in
+    flat_map (λ (o : Obstacle). distances position unit width (pose_at o tick)) obstacles
 
 unfoldable pub headway : List Obstacle → Point → ℤ → ℤ → ℕ → ℤ
-headway obstacles position heading width tick = least (all_distances obstacles position heading width tick)
+headway obstacles position heading width tick =
+    least (all_distances obstacles position heading width tick)

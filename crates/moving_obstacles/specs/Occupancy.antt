@@ -10,8 +10,10 @@ use Rattle.moving_obstacles.specs.Placing.{placed}
 -- the first state with the tick, or at every tick the one state of an obstacle that stands
 unfoldable pub pose_at : Obstacle → ℕ → Option Pose
 pose_at obstacle tick =
-    if obstacle.moving then find (λ (pose : Pose). pose.tick == tick) obstacle.states else slice_get obstacle.states 0
+    if obstacle.moving then find (λ (pose : Pose). pose.tick == tick) obstacle.states
+    else slice_get obstacle.states 0
 
 -- the shapes placed at the pose of the tick, or nothing
 unfoldable pub occupancy : Obstacle → ℕ → Option (List (List Point))
-occupancy obstacle tick = option_map (λ (pose : Pose). map (placed pose) obstacle.shapes) (pose_at obstacle tick)
+occupancy obstacle tick =
+    option_map (λ (pose : Pose). map (placed pose) obstacle.shapes) (pose_at obstacle tick)

@@ -1,7 +1,9 @@
-ghost use Rattle.std.specs.Prelude.{◌≡◌, ◌≤◌, ◌^◌, ◌≤ℤ◌, pos, unsigned_abs, All, map, IfOk};
+ghost use Rattle.std.specs.Prelude.{◌≡◌, ◌≤◌, ◌≤ℤ◌, pos, unsigned_abs, All, map, IfOk};
 ghost use Rattle.std.specs.List.{fold, list_any};
 ghost use Rattle.std.specs.Int.{int_min};
-ghost use Rattle.fixed_geometry.specs.Boxes.{bounds as bounds_of, box_gap as box_gap_of, IsBoxInRange};
+ghost use Rattle.fixed_geometry.specs.Boxes.{bounds as bounds_of, box_gap as box_gap_of};
+ghost use Rattle.fixed_geometry.specs.Boxes.{IsBoxInRange};
+ghost use Rattle.fixed_geometry.specs.declared.limits.TheConstants.{MAX_PLANE_COORDINATE};
 ghost use Rattle.fixed_geometry.specs.Polygon.{IsCornerList, polygons_meet as do_polygons_meet};
 ghost use Rattle.scenario_model.specs.Scenario.{IsShape, IsPose};
 ghost use Rattle.moving_obstacles.specs.Bounds.{IsBoxIn, AreBounds};
@@ -14,7 +16,7 @@ use scenario_model::{Pose, Shape};
 use std::alloc::Global;
 use std::marker::Model;
 
-/// A placement, and a box that holds its shapes: what is far from the box is asked about no shape.
+// A placement, and a box that holds its shapes: what is far from the box is asked about no shape.
 #[derive(Drop)]
 pub(crate) struct BoundedPlacement {
     placement: Placement,
@@ -35,22 +37,22 @@ impl Model for BoundedPlacement {
 
 // The lesser of two coordinates.
 fn lesser(u: i64, v: i64) -> i64
-    requires u { unsigned_abs u ≤ 10 ^ 12 }
-    requires v { unsigned_abs v ≤ 10 ^ 12 }
+    requires u { unsigned_abs u ≤ MAX_PLANE_COORDINATE }
+    requires v { unsigned_abs v ≤ MAX_PLANE_COORDINATE }
     ensures first { result ≤ℤ u }
     ensures second { result ≤ℤ v }
-    ensures size { unsigned_abs result ≤ 10 ^ 12 }
+    ensures size { unsigned_abs result ≤ MAX_PLANE_COORDINATE }
 {
     u.min(v)
 }
 
 // The greater of two coordinates.
 fn greater(u: i64, v: i64) -> i64
-    requires u { unsigned_abs u ≤ 10 ^ 12 }
-    requires v { unsigned_abs v ≤ 10 ^ 12 }
+    requires u { unsigned_abs u ≤ MAX_PLANE_COORDINATE }
+    requires v { unsigned_abs v ≤ MAX_PLANE_COORDINATE }
     ensures first { u ≤ℤ result }
     ensures second { v ≤ℤ result }
-    ensures size { unsigned_abs result ≤ 10 ^ 12 }
+    ensures size { unsigned_abs result ≤ MAX_PLANE_COORDINATE }
 {
     u.max(v)
 }
@@ -103,7 +105,7 @@ fn bounds_of_all(shapes: &[Polygon]) -> Box2
 impl BoundedPlacement {
     ghost use Rattle.moving_obstacles.specs.Tracks.{placement_of};
 
-    /// The shapes at the pose.
+    // The shapes at the pose.
     pub(crate) fn new(
         alloc: Global,
         pose: Pose,
@@ -136,7 +138,7 @@ impl BoundedPlacement {
         self.placement.shapes.as_slice()
     }
 
-    /// Whether the polygon, whose least box is given, meets one of the shapes.
+    // Whether the polygon, whose least box is given, meets one of the shapes.
     pub(crate) fn is_met(&self, ego: &[Point], ego_bounds: Box2) -> bool
         requires ego { IsCornerList ego.now }
         requires bounds { ego_bounds ≡ bounds_of ego.now }
@@ -149,11 +151,12 @@ impl BoundedPlacement {
         meets_any(ego, self.placement.shapes.as_slice())
     }
 
-    /// The least of the gaps to the shapes, and of `least`.
+    // The least of the gaps to the shapes, and of `least`.
     pub(crate) fn least_gap(&self, ego: Box2, least: i64) -> i64
         requires ego { IsBoxInRange ego }
         requires least { pos 0 ≤ℤ least }
-        ensures value { result ≡ fold int_min least (map (λ corners. box_gap_of ego (bounds_of corners)) self.now.shapes) }
+        ensures value { result ≡ fold int_min least
+            (map (λ corners. box_gap_of ego (bounds_of corners)) self.now.shapes) }
         ensures low { pos 0 ≤ℤ result }
     {
         if least <= box_gap(ego, self.bounds) {

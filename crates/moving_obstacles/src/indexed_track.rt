@@ -16,7 +16,8 @@ use scenario_model::{Obstacle, Pose};
 use std::alloc::Global;
 use std::marker::Model;
 
-/// A track whose placements are found by their places, where their ticks rise by one from the first tick on.
+// A track whose placements are found by their places, where their ticks rise by one from the first
+// tick on.
 #[derive(Drop)]
 pub(crate) struct IndexedTrack {
     track: Track,
@@ -32,7 +33,8 @@ impl Model for IndexedTrack {
 
     ghost view = { λ indexed. indexed.track };
 
-    ghost invariant = { λ indexed. IfSome indexed.first_tick (λ tick. RisesFrom tick indexed.track) };
+    ghost invariant = { λ indexed.
+        IfSome indexed.first_tick (λ tick. RisesFrom tick indexed.track) };
 }
 
 // Whether the ticks rise by one, from the first tick on.
@@ -92,7 +94,7 @@ fn placement_from(
 impl IndexedTrack {
     ghost use Rattle.moving_obstacles.specs.Tracks.{track_of, placement_in, pose_in, shapes_in};
 
-    /// The obstacle with its shapes placed at each of its states.
+    // The obstacle with its shapes placed at each of its states.
     pub(crate) fn new(alloc: Global, obstacle: &Obstacle) -> Result<IndexedTrack, NoMemory>
         requires { IsObstacle obstacle.now }
         ensures { IfOk result (λ track. track ≡ track_of obstacle.now) }
@@ -113,7 +115,7 @@ impl IndexedTrack {
         }
     }
 
-    /// Where the obstacle is at the tick, if anywhere.
+    // Where the obstacle is at the tick, if anywhere.
     #[tactic(auto, unfolding(crate::specs::Tracks::pose_in))]
     pub(crate) fn pose_at(&self, tick: u32) -> Option<Pose>
         ensures { result ≡ pose_in self.now tick }
@@ -124,7 +126,7 @@ impl IndexedTrack {
         }
     }
 
-    /// The shapes placed at that pose.
+    // The shapes placed at that pose.
     #[tactic(auto, unfolding(crate::specs::Tracks::shapes_in))]
     pub(crate) fn shapes_at(&self, tick: u32) -> Option<&[Polygon]>
         ensures { option_copied result ≡ shapes_in self.now tick }
@@ -135,7 +137,7 @@ impl IndexedTrack {
         }
     }
 
-    /// Whether the polygon, whose least box is given, meets one of the shapes at the tick.
+    // Whether the polygon, whose least box is given, meets one of the shapes at the tick.
     #[tactic(auto, unfolding(crate::specs::Nearness::is_met, crate::specs::Tracks::shapes_in))]
     pub(crate) fn is_met(&self, ego: &[Point], ego_bounds: Box2, tick: u32) -> bool
         requires ego { IsCornerList ego.now }
@@ -149,7 +151,7 @@ impl IndexedTrack {
         }
     }
 
-    /// The least of `least` and the gaps to the shapes at the tick.
+    // The least of `least` and the gaps to the shapes at the tick.
     #[tactic(auto, unfolding(crate::specs::Nearness::gaps, crate::specs::Tracks::shapes_in))]
     pub(crate) fn least_gap(&self, ego: Box2, tick: u32, least: i64) -> i64
         requires ego { IsBoxInRange ego }

@@ -1,7 +1,8 @@
 ghost use Rattle.std.specs.Prelude.{◌≡◌, ◌≤ℤ◌, pos, map};
 ghost use Rattle.std.specs.List.{fold, list_any};
 ghost use Rattle.std.specs.Int.{int_min};
-ghost use Rattle.fixed_geometry.specs.Boxes.{bounds as bounds_of, box_gap as box_gap_of, IsBoxInRange};
+ghost use Rattle.fixed_geometry.specs.Boxes.{bounds as bounds_of, box_gap as box_gap_of};
+ghost use Rattle.fixed_geometry.specs.Boxes.{IsBoxInRange};
 ghost use Rattle.fixed_geometry.specs.Polygon.{IsCornerList, polygons_meet as do_polygons_meet};
 
 use fixed_geometry::{Box2, Point, Polygon, bounds, box_gap, polygons_meet};
@@ -14,7 +15,7 @@ fn meets(ego: &[Point], shape: &Polygon) -> bool
     polygons_meet(ego, shape.corners())
 }
 
-/// Whether the polygon meets one of the shapes.
+// Whether the polygon meets one of the shapes.
 pub(crate) fn meets_any(ego: &[Point], shapes: &[Polygon]) -> bool
     requires { IsCornerList ego.now }
     ensures { result ≡ list_any (do_polygons_meet ego.now) shapes.now }
@@ -41,11 +42,12 @@ fn lesser(u: i64, v: i64) -> i64
     u.min(v)
 }
 
-/// The least of the gaps to the shapes, and of `least`.
+// The least of the gaps to the shapes, and of `least`.
 pub(crate) fn least_gap(ego: Box2, shapes: &[Polygon], least: i64) -> i64
     requires ego { IsBoxInRange ego }
     requires least { pos 0 ≤ℤ least }
-    ensures value { result ≡ fold int_min least (map (λ corners. box_gap_of ego (bounds_of corners)) shapes.now) }
+    ensures value { result ≡ fold int_min least
+        (map (λ corners. box_gap_of ego (bounds_of corners)) shapes.now) }
     ensures low { pos 0 ≤ℤ result }
 {
     let mut nearest = least;

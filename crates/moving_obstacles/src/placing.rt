@@ -1,8 +1,12 @@
-ghost use Rattle.std.specs.Prelude.{◌≡◌, ◌≤◌, ◌*◌, ◌^◌, ◌+ℤ◌, All, length, map, unsigned_abs, IfOk};
+ghost use Rattle.std.specs.Prelude.{◌≡◌, ◌≤◌, ◌*◌, ◌+ℤ◌, All, length, map, unsigned_abs, IfOk};
 ghost use Rattle.fixed_geometry.specs.Plane.{IsWithin, IsInRange};
 ghost use Rattle.fixed_geometry.specs.Polygon.{IsCornerList};
 ghost use Rattle.fixed_geometry.specs.Shapes.{IsExtent, rectangle};
+ghost use Rattle.fixed_geometry.specs.declared.limits.TheConstants.{MAX_ANGLE, MAX_CENTER};
+ghost use Rattle.fixed_geometry.specs.declared.limits.TheConstants.{MAX_OFFSET, MIN_POLYGON_CORNERS};
 ghost use Rattle.scenario_model.specs.Scenario.{IsRead, IsShape, IsPose};
+ghost use Rattle.scenario_model.specs.declared.limits.TheConstants.{MAX_COORDINATE, MAX_CORNERS};
+ghost use Rattle.scenario_model.specs.declared.limits.TheConstants.{MAX_HEADING};
 ghost use Rattle.moving_obstacles.specs.Placing.{placed_point as placed_point_of, placed};
 
 use fixed_geometry::{Point, Polygon, circle_at, rectangle_at, rotate};
@@ -12,20 +16,20 @@ use std::alloc::Global;
 
 // A coordinate moved by an offset.
 fn moved(from: i64, offset: i64) -> i64
-    requires from { unsigned_abs from ≤ 10 ^ 11 }
-    requires offset { unsigned_abs offset ≤ 4 * 10 ^ 11 }
+    requires from { unsigned_abs from ≤ MAX_COORDINATE }
+    requires offset { unsigned_abs offset ≤ 2 * MAX_OFFSET }
     ensures value { result ≡ from +ℤ offset }
-    ensures size { unsigned_abs result ≤ 5 * 10 ^ 11 }
+    ensures size { unsigned_abs result ≤ MAX_CENTER }
 {
     from + offset
 }
 
 // A heading turned by an angle.
 fn turned(heading: i64, angle: i64) -> i64
-    requires heading { unsigned_abs heading ≤ 10 ^ 9 }
-    requires angle { unsigned_abs angle ≤ 10 ^ 9 }
+    requires heading { unsigned_abs heading ≤ MAX_HEADING }
+    requires angle { unsigned_abs angle ≤ MAX_HEADING }
     ensures value { result ≡ heading +ℤ angle }
-    ensures size { unsigned_abs result ≤ 4 * 10 ^ 9 }
+    ensures size { unsigned_abs result ≤ MAX_ANGLE }
 {
     heading + angle
 }
@@ -36,7 +40,7 @@ fn placed_point(pose: Pose, point: Point) -> Point
     requires pose { IsPose pose }
     requires point { IsRead point }
     ensures value { result ≡ placed_point_of pose point }
-    ensures size { IsWithin (5 * 10 ^ 11) result }
+    ensures size { IsWithin MAX_CENTER result }
 {
     let offset = rotate(point, pose.heading);
     let x = moved(pose.position.x, offset.x);
@@ -44,14 +48,16 @@ fn placed_point(pose: Pose, point: Point) -> Point
     Point { x, y }
 }
 
-// The corners of a rectangle at the pose, about its placed center and with the sum of both headings.
+// The corners of a rectangle at the pose, about its placed center and with the sum of both
+// headings.
 fn placed_rectangle(pose: Pose, center: Point, heading: i64, length: i64, width: i64) -> [Point; 4]
     requires pose { IsPose pose }
     requires center { IsRead center }
-    requires heading { unsigned_abs heading ≤ 10 ^ 9 }
+    requires heading { unsigned_abs heading ≤ MAX_HEADING }
     requires length { IsExtent length }
     requires width { IsExtent width }
-    ensures value { result ≡ rectangle (placed_point_of pose center) (pose.heading +ℤ heading) length width }
+    ensures value { result
+        ≡ rectangle (placed_point_of pose center) (pose.heading +ℤ heading) length width }
     ensures corners { IsCornerList result }
 {
     let heading = turned(pose.heading, heading);
@@ -72,7 +78,8 @@ fn polygon(corners: Vec<Point>) -> Polygon
 // The corners of a polygon at the pose.
 fn placed_corners(alloc: Global, pose: Pose, corners: &[Point]) -> Result<Polygon, NoMemory>
     requires pose { IsPose pose }
-    requires corners { (3 ≤ length corners.now) × (length corners.now ≤ 256) × All IsRead corners.now }
+    requires corners { (MIN_POLYGON_CORNERS ≤ length corners.now)
+        × (length corners.now ≤ MAX_CORNERS) × All IsRead corners.now }
     ensures { IfOk result (λ polygon. polygon ≡ map (placed_point_of pose) corners.now) }
 {
     let mut placed = Vec::new(alloc);
@@ -107,7 +114,7 @@ fn placed_shape(alloc: Global, pose: Pose, shape: &Shape) -> Result<Polygon, NoM
     }
 }
 
-/// The shapes at the pose, in order.
+// The shapes at the pose, in order.
 pub(crate) fn placed_shapes(
     alloc: Global,
     pose: Pose,

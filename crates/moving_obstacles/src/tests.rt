@@ -1,6 +1,8 @@
-ghost use Rattle.std.specs.Prelude.{◌≤◌, ◌^◌, All, length, unsigned_abs, [], IfOk};
+ghost use Rattle.std.specs.Prelude.{◌≤◌, All, length, unsigned_abs, [], IfOk};
 ghost use Rattle.fixed_geometry.specs.Plane.{IsWithin};
-ghost use Rattle.scenario_model.specs.Scenario.{IsRead, IsShape, IsPose, IsStateCount, IsObstacle, IsProblem, IsScenario};
+ghost use Rattle.scenario_model.specs.Scenario.{IsRead, IsShape, IsPose, IsStateCount};
+ghost use Rattle.scenario_model.specs.Scenario.{IsObstacle, IsProblem, IsScenario};
+ghost use Rattle.scenario_model.specs.declared.limits.TheConstants.{MAX_HEADING};
 
 use crate::Traffic;
 use fixed_geometry::{Point, bounds, rectangle_at};
@@ -20,7 +22,7 @@ fn at(x: i32, y: i32) -> Point
 
 fn pose(tick: u16, position: Point, heading: i64) -> Pose
     requires position { IsRead position }
-    requires heading { unsigned_abs heading ≤ 10 ^ 9 }
+    requires heading { unsigned_abs heading ≤ MAX_HEADING }
     ensures { IsPose result }
 {
     Pose {
@@ -125,14 +127,16 @@ fn moving(alloc: Global, from: Pose, to: Pose) -> Result<Traffic, NoMemory>
 }
 
 #[test]
-fn a_standing_car_is_ahead_met_or_behind(rt: HostRuntime) -> Result<(), Fail> {
-    let traffic = standing(rt.alloc(), car(), pose(0, at(100_000, 0), 0))?;
-    let rows = [
-        (0, 0, 55_000, 100_000),
-        (55_000, 1, 0, 45_000),
-        (200_000, 0, 55_000, 10_000_000),
-    ];
-    for (x, met, gap, ahead) in rows {
+fn a_standing_car_is_ahead_met_behind_or_beside(rt: HostRuntime) -> Result<(), Fail> {
+    for (y, x, met, gap, ahead) in [
+        (0, 0, 0, 55_000, 100_000),
+        (0, 55_000, 1, 0, 45_000),
+        (0, 200_000, 0, 55_000, 10_000_000),
+        (18_000, 0, 0, 55_000, 100_000),
+        (-18_000, 0, 0, 55_000, 100_000),
+        (18_001, 0, 0, 55_000, 10_000_000),
+    ] {
+        let traffic = standing(rt.alloc(), car(), pose(0, at(100_000, y), 0))?;
         let ego = rectangle_at(at(x, 0), 0, 45_000, 18_000);
         assert_eq!(rt; traffic.meeting(&ego, 0), met);
         assert_eq!(rt; traffic.nearest_gap(bounds(&ego), 0), gap);
@@ -154,38 +158,30 @@ fn an_empty_road_is_free(rt: HostRuntime) -> Result<(), Fail> {
 }
 
 #[test]
-fn a_moving_car_is_there_at_the_ticks_of_its_states(rt: HostRuntime) -> Result<(), Fail> {
-    let rows = [
-        (1, 0, Some(1)),
-        (1, 1, Some(1)),
-        (1, 2, None),
-        (2, 1, None),
-        (2, 2, Some(1)),
-    ];
-    for (last, tick, shapes) in rows {
-        let from = pose(0, at(0, 0), 0);
-        let to = pose(last, at(100_000, 0), 0);
-        let traffic = moving(rt.alloc(), from, to)?;
+fn a_moving_car_is_at_the_first_of_its_states_with_the_tick(rt: HostRuntime) -> Result<(), Fail> {
+    for (from, to, last, tick, shapes, ahead) in [
+        (0, 100_000, 1, 0, Some(1), 10_000_000),
+        (0, 100_000, 1, 1, Some(1), 100_000),
+        (0, 100_000, 1, 2, None, 10_000_000),
+        (0, 100_000, 2, 1, None, 10_000_000),
+        (0, 100_000, 2, 2, Some(1), 100_000),
+        (100_000, 50_000, 0, 0, Some(1), 100_000),
+    ] {
+        let first = pose(0, at(from, 0), 0);
+        let second = pose(last, at(to, 0), 0);
+        let traffic = moving(rt.alloc(), first, second)?;
         assert_eq!(rt; traffic.count(), 1);
         assert_eq!(rt;
             traffic.occupancy(0, tick).map(|shapes| shapes.len()),
             shapes
         );
+        assert_eq!(rt; traffic.headway(at(0, 0), 0, 18_000, tick), ahead);
     }
     Ok(())
 }
 
 #[test]
-fn the_first_of_two_states_at_a_tick_counts(rt: HostRuntime) -> Result<(), Fail> {
-    let first = pose(0, at(100_000, 0), 0);
-    let second = pose(0, at(50_000, 0), 0);
-    let traffic = moving(rt.alloc(), first, second)?;
-    assert_eq!(rt; traffic.headway(at(0, 0), 0, 18_000, 0), 100_000);
-    Ok(())
-}
-
-#[test]
-fn a_corner_that_touches_meets(rt: HostRuntime) -> Result<(), Fail> {
+fn shapes_touch_with_a_corner_and_turn(rt: HostRuntime) -> Result<(), Fail> {
     let ego = rectangle_at(at(0, 0), 0, 45_000, 18_000);
     for (x, met) in [(22_500, 1), (22_501, 0)] {
         let mut corners = List::new(rt.alloc());
@@ -195,20 +191,6 @@ fn a_corner_that_touches_meets(rt: HostRuntime) -> Result<(), Fail> {
         let traffic = standing(rt.alloc(), Shape::Corners { corners }, pose(0, at(0, 0), 0))?;
         assert_eq!(rt; traffic.meeting(&ego, 0), met);
     }
-    Ok(())
-}
-
-#[test]
-fn an_obstacle_beside_the_way_is_not_ahead(rt: HostRuntime) -> Result<(), Fail> {
-    for (y, ahead) in [(18_000, 100_000), (-18_000, 100_000), (18_001, 10_000_000)] {
-        let traffic = standing(rt.alloc(), car(), pose(0, at(100_000, y), 0))?;
-        assert_eq!(rt; traffic.headway(at(0, 0), 0, 18_000, 0), ahead);
-    }
-    Ok(())
-}
-
-#[test]
-fn a_shape_turns_with_its_obstacle(rt: HostRuntime) -> Result<(), Fail> {
     let shape = Shape::Rectangle {
         length: 4,
         width: 2,

@@ -9,14 +9,14 @@ use preorder::{List, NoMemory};
 use scenario_model::{Obstacle, Pose, Shape};
 use std::alloc::Global;
 
-/// Shapes placed at a pose.
+// Shapes placed at a pose.
 #[derive(Drop)]
 pub(crate) struct Placement {
     pub pose: Pose,
     pub shapes: List<Polygon>,
 }
 
-/// An obstacle with its shapes placed at each of its states.
+// An obstacle with its shapes placed at each of its states.
 #[derive(Drop)]
 pub(crate) struct Track {
     pub moving: bool,
@@ -33,7 +33,7 @@ fn first_at(placements: &[BoundedPlacement], tick: u32) -> Option<&BoundedPlacem
 impl Placement {
     ghost use Rattle.moving_obstacles.specs.Tracks.{placement_of};
 
-    /// The shapes at the pose.
+    // The shapes at the pose.
     #[tactic(auto, unfolding(crate::specs::Tracks::placement_of))]
     pub(crate) fn new(alloc: Global, pose: Pose, shapes: &[Shape]) -> Result<Placement, NoMemory>
         requires pose { IsPose pose }
@@ -56,7 +56,8 @@ impl Track {
     ) -> Result<List<BoundedPlacement>, NoMemory>
         requires states { All IsPose states.now }
         requires shapes { All IsShape shapes.now }
-        ensures { IfOk result (λ placements. placements ≡ map (placement_of shapes.now) states.now) }
+        ensures { IfOk result
+            (λ placements. placements ≡ map (placement_of shapes.now) states.now) }
     {
         let mut placements = List::new(alloc);
         for state in states {
@@ -65,7 +66,7 @@ impl Track {
         Ok(placements)
     }
 
-    /// The obstacle with its shapes placed at each of its states.
+    // The obstacle with its shapes placed at each of its states.
     #[tactic(auto, unfolding(crate::specs::Tracks::track_of))]
     pub(crate) fn new(alloc: Global, obstacle: &Obstacle) -> Result<Track, NoMemory>
         requires { IsObstacle obstacle.now }
@@ -79,7 +80,7 @@ impl Track {
         })
     }
 
-    /// The first placement with the tick, or the only one where the obstacle stands.
+    // The first placement with the tick, or the only one where the obstacle stands.
     #[tactic(auto, unfolding(crate::specs::Tracks::placement_in))]
     pub(crate) fn placement_at(&self, tick: u32) -> Option<&BoundedPlacement>
         ensures { option_copied result ≡ placement_in self.now tick }

@@ -1,24 +1,29 @@
-ghost use Rattle.std.specs.Prelude.{◌≡◌, ◌<◌, ◌≤◌, ◌≤ℤ◌, ◌*◌, ◌^◌, pos, unsigned_abs, All, length, map, count_by, slice_get, option_and_then, IfOk};
+ghost use Rattle.std.specs.Prelude.{◌≡◌, ◌<◌, ◌≤◌, ◌≤ℤ◌, pos, unsigned_abs, All, length, map};
+ghost use Rattle.std.specs.Prelude.{count_by, slice_get, option_and_then, IfOk};
 ghost use Rattle.std.specs.List.{flat_map};
 ghost use Rattle.std.specs.Option.{option_copied};
 ghost use Rattle.fixed_geometry.specs.Plane.{IsWithin, IsInRange};
 ghost use Rattle.fixed_geometry.specs.Boxes.{bounds as bounds_of, IsBoxInRange};
 ghost use Rattle.fixed_geometry.specs.Polygon.{IsCornerList};
+ghost use Rattle.fixed_geometry.specs.declared.limits.TheConstants.{MAX_ANGLE, MICROS_PER_UNIT};
 ghost use Rattle.scenario_model.specs.Scenario.{IsObstacle, IsScenario};
+ghost use Rattle.scenario_model.specs.declared.limits.TheConstants.{MAX_OBSTACLES};
 ghost use Rattle.moving_obstacles.specs.Occupancy.{occupancy};
-ghost use Rattle.moving_obstacles.specs.Nearness.{is_met, gaps, distances, least, IsLeast, meeting, all_gaps, nearest_gap, all_distances, headway};
-ghost use Rattle.moving_obstacles.specs.Tracks.{track_of, IsTrafficOf, ForObstacles, shapes_in, pose_in, occupancy_in, meeting_in, nearest_gap_in, headway_in};
+ghost use Rattle.moving_obstacles.specs.Nearness.{is_met, gaps, distances, least, IsLeast};
+ghost use Rattle.moving_obstacles.specs.Nearness.{meeting, all_gaps, nearest_gap};
+ghost use Rattle.moving_obstacles.specs.Nearness.{all_distances, headway};
+ghost use Rattle.moving_obstacles.specs.Tracks.{track_of, IsTrafficOf, ForObstacles, shapes_in};
+ghost use Rattle.moving_obstacles.specs.Tracks.{pose_in, occupancy_in, meeting_in};
+ghost use Rattle.moving_obstacles.specs.Tracks.{nearest_gap_in, headway_in};
 
 use crate::ahead::least_distance;
 use crate::indexed_track::IndexedTrack;
+use crate::limits::MAX_DISTANCE;
 use fixed_geometry::{Box2, Point, Polygon, bounds, direction};
 use preorder::{List, NoMemory};
 use scenario_model::{Obstacle, Scenario};
 use std::alloc::Global;
 use std::marker::Model;
-
-/// The farthest that is told apart, in 0.1 mm.
-const FARTHEST: i64 = 10_000_000;
 
 // How many of the obstacles meet the polygon at the tick.
 fn count_met(tracks: &[IndexedTrack], ego: &[Point], ego_bounds: Box2, tick: u32) -> usize
@@ -40,9 +45,9 @@ fn least_gap_of_all(tracks: &[IndexedTrack], ego: Box2, tick: u32) -> i64
     requires { IsBoxInRange ego }
     ensures value { result ≡ least (flat_map (λ t. gaps ego (shapes_in t tick)) tracks.now) }
     ensures low { pos 0 ≤ℤ result }
-    ensures high { result ≤ℤ pos 10_000_000 }
+    ensures high { result ≤ℤ MAX_DISTANCE }
 {
-    let mut nearest = FARTHEST;
+    let mut nearest = MAX_DISTANCE;
     for track in tracks {
         nearest = track.least_gap(ego, tick, nearest);
     }
@@ -58,12 +63,13 @@ fn least_distance_of_all(
     width: i64,
     tick: u32,
 ) -> i64
-    requires { IsWithin (10 ^ 6) unit }
-    ensures value { result ≡ least (flat_map (λ t. distances position unit width (pose_in t tick)) tracks.now) }
+    requires { IsWithin MICROS_PER_UNIT unit }
+    ensures value { result
+        ≡ least (flat_map (λ t. distances position unit width (pose_in t tick)) tracks.now) }
     ensures low { pos 0 ≤ℤ result }
-    ensures high { result ≤ℤ pos 10_000_000 }
+    ensures high { result ≤ℤ MAX_DISTANCE }
 {
-    let mut nearest = FARTHEST;
+    let mut nearest = MAX_DISTANCE;
     for track in tracks {
         nearest = least_distance(position, unit, width, track.pose_at(tick), nearest);
     }
@@ -92,17 +98,19 @@ pub struct Traffic {
 
 impl Model for Traffic {
     ghost use Rattle.std.specs.Prelude.{◌≤◌, List, length};
+    ghost use Rattle.scenario_model.specs.declared.limits.TheConstants.{MAX_OBSTACLES};
     ghost use Rattle.moving_obstacles.specs.declared.track.Track.{Track as Placed};
 
     ghost Value = { List Placed };
 
     ghost view = { λ traffic. traffic.tracks };
 
-    ghost invariant = { λ traffic. length traffic.tracks ≤ 500 };
+    ghost invariant = { λ traffic. length traffic.tracks ≤ MAX_OBSTACLES };
 }
 
 impl Traffic {
-    /// The traffic of the scenario's obstacles.
+    /// The traffic of the scenario's obstacles, in document order. It fails for want of memory
+    /// alone.
     pub fn new(alloc: Global, scenario: &Scenario) -> Result<Traffic, NoMemory>
         requires { IsScenario scenario.now }
         ensures all { IfOk result (IsTrafficOf scenario.now.obstacles) }
@@ -112,70 +120,79 @@ impl Traffic {
         Ok(Traffic { tracks })
     }
 
-    /// The number of obstacles, those that stand among them.
+    /// The number of obstacles, those that stand among them: at most `MAX_OBSTACLES`.
     pub fn count(&self) -> usize
         ensures value { result ≡ length self.now }
-        ensures few { result ≤ 500 }
+        ensures few { result ≤ MAX_OBSTACLES }
         ensures all { ForObstacles self.now (λ obstacles. result ≡ length obstacles) }
     {
         self.tracks.as_slice().len()
     }
 
-    /// The shapes of the obstacle at the index, placed where it is at the tick. None where it is nowhere then.
+    /// The shapes of the obstacle at the index, placed where it is at the tick, in 0.1 mm. None
+    /// where it is nowhere then.
     ///
     /// The index is below the count.
     #[tactic(auto, unfolding(crate::specs::Tracks::occupancy_in))]
     pub fn occupancy(&self, index: usize, tick: u32) -> Option<&[Polygon]>
         requires { index < length self.now }
         ensures value { option_copied result ≡ occupancy_in self.now index tick }
-        ensures all { ForObstacles self.now (λ obstacles.
-            option_copied result ≡ option_and_then (λ o. occupancy o tick) (slice_get obstacles index)) }
+        ensures all { ForObstacles self.now (λ obstacles. option_copied result
+            ≡ option_and_then (λ o. occupancy o tick) (slice_get obstacles index)) }
     {
         let tracks = self.tracks.as_slice();
         tracks[index].shapes_at(tick)
     }
 
-    /// How many obstacles have a shape that meets the polygon at the tick.
+    /// How many obstacles have a shape that meets the polygon at the tick, touching included: at
+    /// most `MAX_OBSTACLES`.
     ///
-    /// The corners are 3 to 4,096 points in range.
+    /// The corners are `MIN_POLYGON_CORNERS` to `MAX_POLYGON_CORNERS` points in range.
     #[tactic(auto, unfolding(crate::specs::Tracks::meeting_in))]
     pub fn meeting(&self, ego: &[Point], tick: u32) -> u32
         requires { IsCornerList ego.now }
         ensures value { result ≡ meeting_in self.now ego.now tick }
-        ensures all { ForObstacles self.now (λ obstacles. result ≡ meeting obstacles ego.now tick) }
-        ensures most { result ≤ 500 }
+        ensures all { ForObstacles self.now
+            (λ obstacles. result ≡ meeting obstacles ego.now tick) }
+        ensures most { result ≤ MAX_OBSTACLES }
     {
         count_met(self.tracks.as_slice(), ego, bounds(ego), tick) as u32
     }
 
-    /// The least box gap to a shape of an obstacle at the tick, in 0.1 mm: 10^7 at most, and where no obstacle is there.
+    /// The least box gap to a shape of an obstacle at the tick, in 0.1 mm: 0 to `MAX_DISTANCE`, and
+    /// `MAX_DISTANCE` where no obstacle is there.
     ///
     /// Both corners of the box are in range.
     #[tactic(auto, unfolding(crate::specs::Tracks::nearest_gap_in))]
     pub fn nearest_gap(&self, ego: Box2, tick: u32) -> i64
         requires { IsBoxInRange ego }
         ensures value { result ≡ nearest_gap_in self.now ego tick }
-        ensures all { ForObstacles self.now (λ obstacles. result ≡ nearest_gap obstacles ego tick) }
-        ensures least { ForObstacles self.now (λ obstacles. IsLeast (all_gaps obstacles ego tick) result) }
+        ensures all { ForObstacles self.now
+            (λ obstacles. result ≡ nearest_gap obstacles ego tick) }
+        ensures least { ForObstacles self.now
+            (λ obstacles. IsLeast (all_gaps obstacles ego tick) result) }
         ensures low { pos 0 ≤ℤ result }
-        ensures high { result ≤ℤ pos 10_000_000 }
+        ensures high { result ≤ℤ MAX_DISTANCE }
     {
         least_gap_of_all(self.tracks.as_slice(), ego, tick)
     }
 
-    /// How far ahead the next obstacle is at the tick, in 0.1 mm: 10^7 at most, and where no obstacle is ahead.
+    /// How far ahead the next obstacle is at the tick, in 0.1 mm: at most `MAX_DISTANCE`, and
+    /// `MAX_DISTANCE` where no obstacle is ahead.
     ///
-    /// It is ahead where it is in front of the position along the heading, and at most the width to a side.
-    /// The heading is in microradians, at most 4 * 10^9 in size, and the width in 0.1 mm.
+    /// It is ahead where its position is in front of the given one along the heading, and at most
+    /// the width to a side. The heading is in microradians, at most `MAX_ANGLE` in size, and the
+    /// width in 0.1 mm.
     #[tactic(auto, unfolding(crate::specs::Tracks::headway_in))]
     pub fn headway(&self, position: Point, heading: i64, width: i64, tick: u32) -> i64
-        requires { unsigned_abs heading ≤ 4 * 10 ^ 9 }
+        requires { unsigned_abs heading ≤ MAX_ANGLE }
         ensures value { result ≡ headway_in self.now position heading width tick }
-        ensures all { ForObstacles self.now (λ obstacles. result ≡ headway obstacles position heading width tick) }
+        ensures all { ForObstacles self.now
+            (λ obstacles. result ≡ headway obstacles position heading width tick) }
         ensures least { ForObstacles self.now
             (λ obstacles. IsLeast (all_distances obstacles position heading width tick) result) }
         ensures low { pos 0 ≤ℤ result }
-        ensures high { result ≤ℤ pos 10_000_000 }
+        ensures high { result ≤ℤ MAX_DISTANCE }
     {
         let unit = direction(heading);
         least_distance_of_all(self.tracks.as_slice(), position, unit, width, tick)

@@ -1,5 +1,7 @@
 -- What a store and a sink tell, and what their calls answer. All of it is this project's own.
-use Rattle.std.specs.Prelude.{◌≡◌, ◌⊎◌, ℕ, ◌+◌, ◌-◌, ◌^◌, ◌<◌, ◌≤◌, min, List, [], ◌∷◌, ◌++◌, length, take, Option, None, Some, Result, Ok, Err, Vec, ⊤, IsErrOf, IsSomeAnd}
+use Rattle.std.specs.Prelude.{◌≡◌, ◌⊎◌, ℕ, ◌+◌, ◌-◌, ◌^◌, ◌<◌, ◌≤◌, min, List, [], ◌∷◌, ◌++◌}
+use Rattle.std.specs.Prelude.{length, take, Option, None, Some, Result, Ok, Err, Vec, ⊤, IsErrOf}
+use Rattle.std.specs.Prelude.{IsSomeAnd}
 use Rattle.std.specs.declared.alloc.Global.{Global}
 use Rattle.std.specs.Ordering.{nat_cmp}
 use Rattle.std.specs.Cmp.Lexicographic.{slice_cmp}
@@ -29,12 +31,14 @@ pub record HasCause {T E : Type 0} (before now : ℕ) (fault : E) (result : Resu
 abbrev pub LoadAnswers : Option Files → List ℕ → Result (Vec ℕ Global) LoadFault → Type 0
 LoadAnswers None name answer = ⊤
 LoadAnswers (Some files) name (Ok bytes) = get files name ≡ Some bytes.items
-LoadAnswers (Some files) name (Err load.TooLong) = IsSomeAnd (get files name) (λ bytes. MAX_FILE < length bytes)
+LoadAnswers (Some files) name (Err load.TooLong) =
+    IsSomeAnd (get files name) (λ bytes. MAX_FILE < length bytes)
 LoadAnswers (Some files) name (Err load.Failed) = ⊤
 LoadAnswers (Some files) name (Err load.NoMemory) = ⊤
 
 -- the name of a failed load, and no other, joins the list
-abbrev pub RecordsFailure : List (List ℕ) → List (List ℕ) → List ℕ → Result (Vec ℕ Global) LoadFault → Type 0
+abbrev pub RecordsFailure : List (List ℕ) → List (List ℕ) → List ℕ → Result (Vec ℕ Global) LoadFault
+    → Type 0
 RecordsFailure old new name (Err load.Failed) = new ≡ old ++ name ∷ []
 RecordsFailure old new name (Err load.TooLong) = new ≡ old
 RecordsFailure old new name (Err load.NoMemory) = new ≡ old
@@ -42,10 +46,12 @@ RecordsFailure old new name (Ok bytes) = new ≡ old
 
 -- the name holds a front of the bytes, or all is as it was
 abbrev pub SavesPart : Files → Option Files → List ℕ → List ℕ → Type 0
-SavesPart files after name bytes = (after ≡ Some files) ⊎ ((kept : ℕ) × (after ≡ Some (insert files name (take kept bytes))))
+SavesPart files after name bytes =
+    (after ≡ Some files) ⊎ ((kept : ℕ) × (after ≡ Some (insert files name (take kept bytes))))
 
 -- what a save leaves of the files, where the store tells them
-abbrev pub SaveAnswers : {T : Type 0} → Option Files → Option Files → List ℕ → List ℕ → Result T SaveFault → Type 0
+abbrev pub SaveAnswers : {T : Type 0} → Option Files → Option Files → List ℕ → List ℕ
+    → Result T SaveFault → Type 0
 SaveAnswers None after name bytes answer = after ≡ None
 SaveAnswers (Some files) after name bytes (Ok _) = after ≡ Some (insert files name bytes)
 SaveAnswers (Some files) after name bytes (Err save.Failed) = SavesPart files after name bytes
@@ -56,6 +62,7 @@ abbrev pub AppendsPrefix : Option (List ℕ) → Option (List ℕ) → List ℕ 
 AppendsPrefix old new bytes = (kept : ℕ) × Appends old new (take kept bytes)
 
 -- what a write leaves
-abbrev pub WriteAnswers : {T : Type 0} → Option (List ℕ) → Option (List ℕ) → List ℕ → Result T SinkFault → Type 0
+abbrev pub WriteAnswers : {T : Type 0} → Option (List ℕ) → Option (List ℕ) → List ℕ
+    → Result T SinkFault → Type 0
 WriteAnswers old new bytes (Ok _) = Appends old new bytes
 WriteAnswers old new bytes (Err _) = AppendsPrefix old new bytes

@@ -1,4 +1,5 @@
-ghost use Rattle.std.specs.Prelude.{◌≡◌, ◌≢◌, ◌↔◌, ◌≤◌, ◌<◌, [], None, IfOk, IfSome, IsErrOf, OnOk, length, vec_len};
+ghost use Rattle.std.specs.Prelude.{◌≡◌, ◌≢◌, ◌↔◌, ◌≤◌, ◌<◌, [], None, IfOk, IfSome, IsErrOf, OnOk};
+ghost use Rattle.std.specs.Prelude.{length, vec_len};
 ghost use Rattle.std.specs.Io.KnownBytes.{Appends};
 ghost use Rattle.std.specs.IoError.{error_kind};
 ghost use Rattle.outside_io.specs.Memory.{names_of};
@@ -9,7 +10,7 @@ use std::io::{ErrorKind, Read, Write};
 use std::rt::Files;
 use std::{fs, io};
 
-/// The most bytes that one write is given.
+// The most bytes that one write is given.
 const PIECE: usize = 65_536;
 
 /// The files of the system, through the runtime. It doesn't tell what they hold.
@@ -69,9 +70,10 @@ impl<'a, R: Files> Store for FileStore<'a, R> {
     }
 }
 
-/// Want of memory exactly where the error tells it.
+// Want of memory exactly where the error tells it.
 fn fault_of(error: &io::Error) -> LoadFault
-    ensures no_memory { (result ≡ LoadFault.NoMemory) ↔ (error_kind error.now ≡ ErrorKind.OutOfMemory) }
+    ensures no_memory { (result ≡ LoadFault.NoMemory)
+        ↔ (error_kind error.now ≡ ErrorKind.OutOfMemory) }
     ensures failed { result ≢ LoadFault.NoMemory → result ≡ LoadFault.Failed }
 {
     match error.kind() {
@@ -80,7 +82,7 @@ fn fault_of(error: &io::Error) -> LoadFault
     }
 }
 
-/// The bytes of a file that is not too long.
+// The bytes of a file that is not too long.
 fn read_file<R: Files>(rt: &R, alloc: Global, name: &str) -> Result<Vec<u8>, LoadFault>
     ensures size { IfOk result (λ bytes. vec_len bytes ≤ MAX_FILE) }
 {
@@ -90,11 +92,12 @@ fn read_file<R: Files>(rt: &R, alloc: Global, name: &str) -> Result<Vec<u8>, Loa
     }
 }
 
-/// All bytes that the reader has left, if they are not too many. It takes one byte more at most.
+// All bytes that the reader has left, if they are not too many. It takes one byte more at most.
 fn read_all<F: Read + Drop>(alloc: Global, file: F) -> Result<Vec<u8>, LoadFault>
     ensures size { IfOk result (λ bytes. vec_len bytes ≤ MAX_FILE) }
     ensures all { IfSome (F.remaining file) (λ left. IfOk result (λ bytes. bytes.items ≡ left)) }
-    ensures too_long { IfSome (F.remaining file) (λ left. IsErrOf result LoadFault.TooLong → MAX_FILE < length left) }
+    ensures too_long { IfSome (F.remaining file) (λ left. IsErrOf result LoadFault.TooLong
+        → MAX_FILE < length left) }
 {
     let mut bytes = Vec::new(alloc);
     match file.take(MAX_FILE as u64 + 1).read_to_end(&mut bytes) {
@@ -104,13 +107,13 @@ fn read_all<F: Read + Drop>(alloc: Global, file: F) -> Result<Vec<u8>, LoadFault
     }
 }
 
-/// The file is made anew, and holds the bytes.
+// The file is made anew, and holds the bytes.
 fn write_file<R: Files>(rt: &R, name: &str, bytes: &[u8]) -> io::Result<()> {
     let mut file = fs::create(rt, name)?;
     write_in_pieces(&mut file, bytes)
 }
 
-/// Writes all bytes, in pieces. A write that takes nothing of a piece is an error.
+// Writes all bytes, in pieces. A write that takes nothing of a piece is an error.
 fn write_in_pieces<W: Write>(file: &mut W, bytes: &[u8]) -> io::Result<()>
     ensures { OnOk result (Appends (W.contents file.old) (W.contents file.new) bytes.now) }
 {

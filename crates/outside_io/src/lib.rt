@@ -1,13 +1,16 @@
 //! Where a program's files come from and where its text goes.
 //!
-//! Two traits whose faults are counted, an object in memory for each, and adapters over the runtime.
-//! The layer above uses that a fault comes only where the count of faults rose. The definitions stand in `specs/Outside.antt`, and those of the objects in memory in `specs/Memory.antt`.
+//! Two traits whose faults are counted, an object in memory for each, and adapters over the
+//! runtime.
+//! The layer above uses that a fault comes only where the count of faults rose. The definitions
+//! stand in `specs/Outside.antt`, and those of the objects in memory in `specs/Memory.antt`.
 #![tactic(auto)]
 
 ghost use Rattle.std.specs.Prelude.{◌≡◌, ℕ, ◌≤◌, List, IfOk, vec_len};
 ghost use Rattle.std.specs.declared.option.Option.{Option};
 ghost use Rattle.outside_io.specs.declared.LoadFault.TheVariants as load;
-ghost use Rattle.outside_io.specs.Outside.{Files, HasCause, LoadAnswers, RecordsFailure, SaveAnswers, WriteAnswers};
+ghost use Rattle.outside_io.specs.Outside.{Files, HasCause, LoadAnswers, RecordsFailure};
+ghost use Rattle.outside_io.specs.Outside.{SaveAnswers, WriteAnswers};
 
 mod file_store;
 mod memory_sink;
@@ -32,6 +35,7 @@ pub enum LoadFault {
     Failed,
     /// More than `MAX_FILE` bytes are held.
     TooLong,
+    /// Memory could not be had.
     NoMemory,
 }
 
@@ -56,6 +60,7 @@ impl<T: Drop> From<AllocFailed<T>> for LoadFault {
 pub enum SaveFault {
     /// The save failed, and the store counted it.
     Failed,
+    /// Memory could not be had.
     NoMemory,
 }
 

@@ -31,7 +31,13 @@ impl Model for MemorySink {
 impl MemorySink {
     /// A sink to which nothing was written.
     pub fn with_room(alloc: Global, room: usize) -> Result<MemorySink, NoMemory>
-        ensures { IfOk result (λ sink. sink ≡ record { written = []; room = room; faults = 0; writes = 0; write_to_fail = None }) }
+        ensures { IfOk result (λ sink. sink ≡ record {
+          written = [];
+          room = room;
+          faults = 0;
+          writes = 0;
+          write_to_fail = None;
+        }) }
     {
         let bytes = Vec::with_capacity(alloc, room)?;
         Ok(MemorySink {
@@ -50,7 +56,8 @@ impl MemorySink {
         self.bytes.as_slice()
     }
 
-    /// The nth write of the sink's life, counted from 1, is to fail after so many bytes. A later call replaces an earlier one.
+    /// The nth write of the sink's life, counted from 1, is to fail after so many bytes. A later
+    /// call replaces an earlier one.
     pub fn fail_write(&mut self, nth: u64, kept: usize)
         ensures { self.new ≡ record self.old { write_to_fail = Some (nth, kept) } }
     {
@@ -64,7 +71,8 @@ impl Sink for MemorySink {
     ghost faults = { λ s. s.faults };
 
     fn write(&mut self, bytes: &[u8]) -> Result<(), SinkFault>
-        ensures bytes { WriteAnswers (Some self.old.written) (Some self.new.written) bytes.now result }
+        ensures bytes { WriteAnswers (Some self.old.written)
+            (Some self.new.written) bytes.now result }
         ensures cause { HasCause self.old.faults self.new.faults SinkFault.Failed result }
         ensures fails { IsErr result ↔ IsTrue (write_fails self.old bytes.now) }
         ensures after { self.new ≡ after_write self.old bytes.now }

@@ -1,4 +1,5 @@
-ghost use Rattle.std.specs.Prelude.{◌≡◌, ◌↔◌, ℕ, ◌≤◌, ◌<◌, ◌≢◌, ◌⊎◌, List, [], Some, None, OnOk, OnErr, IfOk, IsErrOf, IsTrue, vec_len, length, map};
+ghost use Rattle.std.specs.Prelude.{◌≡◌, ◌↔◌, ℕ, ◌≤◌, ◌<◌, ◌≢◌, ◌⊎◌, List, [], Some, None, OnOk};
+ghost use Rattle.std.specs.Prelude.{OnErr, IfOk, IsErrOf, IsTrue, vec_len, length, map};
 ghost use Rattle.std.specs.Option.{option_map};
 ghost use Rattle.outside_io.specs.Memory.{after_load, after_save, files_of, load_fails, save_fails};
 ghost use Rattle.outside_io.specs.Outside.{HasCause, LoadAnswers, RecordsFailure, SaveAnswers};
@@ -14,7 +15,7 @@ use std::marker::Model;
 #[derive(Drop)]
 pub struct MemoryStore {
     alloc: Global,
-    /// The newest first: the first entry of a name is its file.
+    // The newest first: the first entry of a name is its file.
     entries: VecDeque<(Vec<u8>, Vec<u8>)>,
     faults: u64,
     failed: Vec<Vec<u8>>,
@@ -37,7 +38,15 @@ impl Model for MemoryStore {
 impl MemoryStore {
     /// A store that holds nothing. It takes no memory.
     pub fn new(alloc: Global) -> MemoryStore
-        ensures { result ≡ record { files = finite.empty; faults = 0; failed = []; loads = 0; load_to_fail = None; saves = 0; save_to_fail = None } }
+        ensures { result ≡ record {
+          files = finite.empty;
+          faults = 0;
+          failed = [];
+          loads = 0;
+          load_to_fail = None;
+          saves = 0;
+          save_to_fail = None;
+        } }
     {
         MemoryStore {
             alloc,
@@ -51,9 +60,12 @@ impl MemoryStore {
         }
     }
 
-    /// The name holds the bytes, and nothing else changes. Where it is refused the store is as it was.
+    /// The name holds the bytes, and nothing else changes. Where it is refused the store is as it
+    /// was.
     pub fn put(&mut self, name: &str, bytes: &[u8]) -> Result<(), NoMemory>
-        ensures ok { OnOk result (self.new ≡ record self.old { files = finite.insert self.old.files name.now bytes.now }) }
+        ensures ok { OnOk result
+            (self.new
+            ≡ record self.old { files = finite.insert self.old.files name.now bytes.now }) }
         ensures err { OnErr result (self.new ≡ self.old) }
     {
         let name = name.as_bytes().to_vec(self.alloc)?;
@@ -69,14 +81,16 @@ impl MemoryStore {
         find(&self.entries, name.as_bytes())
     }
 
-    /// The nth load of the store's life, counted from 1, is to fail. A later call replaces an earlier one.
+    /// The nth load of the store's life, counted from 1, is to fail. A later call replaces an
+    /// earlier one.
     pub fn fail_load(&mut self, nth: u64)
         ensures { self.new ≡ record self.old { load_to_fail = Some nth } }
     {
         self.load_to_fail = Some(nth);
     }
 
-    /// The nth save of the store's life, counted from 1, is to fail: the name then holds the first `kept` bytes, or all where there are fewer.
+    /// The nth save of the store's life, counted from 1, is to fail: the name then holds the first
+    /// `kept` bytes, or all where there are fewer.
     /// A later call replaces an earlier one.
     pub fn fail_save(&mut self, nth: u64, kept: usize)
         ensures { self.new ≡ record self.old { save_to_fail = Some (nth, kept) } }
@@ -99,9 +113,10 @@ impl MemoryStore {
     }
 }
 
-/// The first entry of the name.
+// The first entry of the name.
 fn find<'a>(entries: &'a VecDeque<(Vec<u8>, Vec<u8>)>, name: &[u8]) -> Option<&'a [u8]>
-    ensures { option_map (λ bytes. bytes.now) result ≡ finite.get (files_of entries.now.items) name.now }
+    ensures { option_map (λ bytes. bytes.now) result
+        ≡ finite.get (files_of entries.now.items) name.now }
 {
     for (key, bytes) in entries {
         if name == key.as_slice() {
@@ -111,7 +126,7 @@ fn find<'a>(entries: &'a VecDeque<(Vec<u8>, Vec<u8>)>, name: &[u8]) -> Option<&'
     None
 }
 
-/// A copy of a file that is not too long.
+// A copy of a file that is not too long.
 fn copied(alloc: Global, bytes: &[u8]) -> Result<Vec<u8>, LoadFault>
     ensures copy { IfOk result (λ copy. copy.items ≡ bytes.now) }
     ensures size { IfOk result (λ copy. vec_len copy ≤ MAX_FILE) }
@@ -140,7 +155,8 @@ impl Store for MemoryStore {
         ensures size { IfOk result (λ bytes. vec_len bytes ≤ MAX_FILE) }
         ensures failed { RecordsFailure self.old.failed self.new.failed name.now result }
         ensures cause { HasCause self.old.faults self.new.faults LoadFault.Failed result }
-        ensures fails { (result ≡ Err LoadFault.NoMemory) ⊎ (IsErrOf result LoadFault.Failed ↔ IsTrue (load_fails self.old name.now)) }
+        ensures fails { (result ≡ Err LoadFault.NoMemory)
+            ⊎ (IsErrOf result LoadFault.Failed ↔ IsTrue (load_fails self.old name.now)) }
         ensures after { self.new ≡ after_load self.old name.now result }
     {
         self.loads = self.loads.saturating_add(1);
@@ -157,10 +173,12 @@ impl Store for MemoryStore {
     }
 
     fn save(&mut self, name: &str, bytes: &[u8]) -> Result<(), SaveFault>
-        ensures saved { SaveAnswers (Some self.old.files) (Some self.new.files) name.now bytes.now result }
+        ensures saved { SaveAnswers (Some self.old.files)
+            (Some self.new.files) name.now bytes.now result }
         ensures failed { self.new.failed ≡ self.old.failed }
         ensures cause { HasCause self.old.faults self.new.faults SaveFault.Failed result }
-        ensures fails { (result ≡ Err SaveFault.NoMemory) ⊎ (IsErrOf result SaveFault.Failed ↔ IsTrue (save_fails self.old)) }
+        ensures fails { (result ≡ Err SaveFault.NoMemory)
+            ⊎ (IsErrOf result SaveFault.Failed ↔ IsTrue (save_fails self.old)) }
         ensures after { self.new ≡ after_save self.old name.now bytes.now result }
     {
         self.saves = self.saves.saturating_add(1);

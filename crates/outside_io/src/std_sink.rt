@@ -35,7 +35,7 @@ impl<'a, R: Print> Sink for StdSink<'a, R> {
     }
 }
 
-/// Writes until all is taken. A write that takes nothing is a fault.
+// Writes until all is taken. A write that takes nothing is a fault.
 fn write_pieces<R: Print>(rt: &R, bytes: &[u8]) -> io::Result<()> {
     let mut rest = bytes;
     while !rest.is_empty() {

@@ -10,7 +10,7 @@ use std::io::{Print, Write};
 use std::test::Fail;
 use std::{fs, io};
 
-/// What a store answers to a load, through the trait's bound.
+// What a store answers to a load, through the trait's bound.
 fn loaded<S: Store>(alloc: Global, store: &mut S, name: &str) -> Option<Vec<u8>> {
     store.load(alloc, name).ok()
 }
@@ -36,12 +36,12 @@ fn a_store_in_memory_loads_what_it_holds(rt: HostRuntime) -> Result<(), Fail> {
     Ok(())
 }
 
-/// What a store answers to a save, through the trait's bound.
+// What a store answers to a save, through the trait's bound.
 fn saved<S: Store>(store: &mut S, name: &str, bytes: &[u8]) -> Result<(), SaveFault> {
     store.save(name, bytes)
 }
 
-/// Whether the name holds these bytes.
+// Whether the name holds these bytes.
 fn holds(store: &MemoryStore, name: &str, bytes: &[u8]) -> bool {
     match store.get(name) {
         Some(held) => held == bytes,
@@ -123,7 +123,7 @@ fn a_file_that_is_not_there_fails(rt: HostRuntime) {
     );
 }
 
-/// An output that takes so many bytes a write, and none from the third write on.
+// An output that takes so many bytes a write, and none from the third write on.
 #[derive(Drop)]
 struct Tired {
     most: usize,

@@ -1,9 +1,11 @@
 //! Base types, and pre-orders over rules.
 //!
 //! The layer above uses that `Preorder::above` is the strict part of the closure of the statements.
-//! The definitions stand in `specs/Statements.antt`, `specs/Relation.antt` and `specs/Preorder.antt`; those of the base types in `specs/Name.antt` and `specs/Violation.antt`.
+//! The definitions stand in `specs/Statements.antt`, `specs/Relation.antt` and
+//! `specs/Preorder.antt`; those of the base types in `specs/Name.antt` and `specs/Violation.antt`.
 #![tactic(auto)]
 
+mod limits;
 mod list;
 mod memory;
 mod name;
@@ -13,6 +15,7 @@ mod row;
 mod tests;
 mod violation;
 
+pub use limits::{MAX_NAME, MAX_RULES};
 pub use list::List;
 pub use memory::NoMemory;
 pub use name::Name;

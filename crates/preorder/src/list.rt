@@ -31,7 +31,7 @@ impl<T> List<T> {
         }
     }
 
-    /// The items.
+    /// Its items, in order.
     pub fn as_slice(&self) -> &[T]
         ensures { result.now ≡ self.now }
     {
@@ -49,7 +49,8 @@ impl<T> List<T> {
 }
 
 impl<T: Drop> List<T> {
-    /// Adds the item at the end. Where it is refused the list is as it was, and the item is given up.
+    /// Adds the item at the end. Where it is refused the list is as it was, and the item is given
+    /// up.
     pub fn push(&mut self, item: T) -> Result<(), NoMemory>
         ensures ok { OnOk result (self.new ≡ self.old ++ item ∷ []) }
         ensures err { OnErr result (self.new ≡ self.old) }

@@ -2,12 +2,14 @@ ghost use Rattle.std.specs.Prelude.{◌≡◌, ◌↔◌, ◌<◌, ◌≤◌, le
 ghost use Rattle.std.specs.List.{list_all};
 ghost use Rattle.preorder.specs.Name.{is_letter, is_name_byte, is_name};
 
+use crate::limits::MAX_NAME;
 use std::marker::Model;
 
-/// A name: 1 to 24 bytes, the first an ASCII letter or `_`, the others ASCII letters, digits or `_`.
+/// A name: 1 to `MAX_NAME` bytes, the first an ASCII letter or `_`, the others ASCII letters,
+/// digits or `_`.
 #[derive(Clone, Copy)]
 pub struct Name {
-    bytes: [u8; 24],
+    bytes: [u8; MAX_NAME],
     len: usize,
 }
 
@@ -31,13 +33,13 @@ impl Model for Name {
 fn is_letter(byte: u8) -> bool
     ensures { result ≡ is_letter byte }
 {
-    (65 <= byte && byte <= 90) || (97 <= byte && byte <= 122) || byte == 95
+    byte.is_ascii_alphabetic() || byte == b'_'
 }
 
 fn is_name_byte(byte: u8) -> bool
     ensures { result ≡ is_name_byte byte }
 {
-    is_letter(byte) || (48 <= byte && byte <= 57)
+    is_letter(byte) || byte.is_ascii_digit()
 }
 
 fn has_name_bytes(text: &[u8]) -> bool
@@ -49,9 +51,9 @@ fn has_name_bytes(text: &[u8]) -> bool
 #[tactic(auto, unfolding(crate::specs::Name::is_name))]
 fn is_name(text: &[u8]) -> bool
     ensures exact { result ≡ is_name text.now }
-    ensures short { IsTrue result → length text.now ≤ 24 }
+    ensures short { IsTrue result → length text.now ≤ MAX_NAME }
 {
-    0 < text.len() && text.len() <= 24 && is_letter(text[0]) && has_name_bytes(text)
+    0 < text.len() && text.len() <= MAX_NAME && is_letter(text[0]) && has_name_bytes(text)
 }
 
 impl Name {
@@ -63,13 +65,13 @@ impl Name {
         if !is_name(text) {
             return None;
         }
-        let mut bytes = [0; 24];
+        let mut bytes = [0; MAX_NAME];
         let len = text.len();
         bytes[..len].copy_from_slice(text);
         Some(Name { bytes, len })
     }
 
-    /// The bytes.
+    /// Its bytes.
     pub fn as_slice(&self) -> &[u8]
         ensures value { result.now ≡ self.now }
         ensures name { IsTrue (is_name self.now) }

@@ -1,14 +1,19 @@
-ghost use Rattle.std.specs.Prelude.{◌≡◌, ℕ, ◌<◌, ◌≤◌, ◌&&◌, ◌||◌, ◌==◌, nat_lt, length, All, IfOk, IfErr, OnOk};
+ghost use Rattle.std.specs.Prelude.{◌≡◌, ℕ, ◌<◌, ◌≤◌, ◌&&◌, ◌||◌, ◌==◌, nat_lt, length, All, IfOk};
+ghost use Rattle.std.specs.Prelude.{IfErr, OnOk};
 ghost use Rattle.std.specs.Int.{bit_at};
 ghost use Rattle.preorder.specs.Relation.{related, IsPreorder};
 ghost use Rattle.preorder.specs.Statements.{IsClosure, InRange};
+ghost use Rattle.preorder.specs.declared.limits.TheConstants.{MAX_RULES};
 
-/// A pre-order of rules: a reflexive and transitive relation on the numbers below its size, which is at most 32.
+use crate::limits::MAX_RULES;
+
+/// A pre-order of rules: a reflexive and transitive relation on the numbers below its size, which
+/// is at most `MAX_RULES`.
 #[derive(Clone, Copy)]
 pub struct Preorder {
     size: usize,
-    rows: [u32; 32],
-    pub ghost fits: { size ≤ 32 },
+    rows: [u32; MAX_RULES],
+    pub ghost fits: { size ≤ MAX_RULES },
     pub ghost closed: { IsPreorder size (related rows) },
 }
 
@@ -20,30 +25,31 @@ pub enum PreorderFault {
 }
 
 fn is_bit_set(row: u32, bit: usize) -> bool
-    requires { bit < 32 }
+    requires { bit < MAX_RULES }
     ensures { result ≡ (bit_at row bit == 1) }
 {
     row >> bit & 1 == 1
 }
 
-/// Each number below `size` is at least itself.
-fn identity(size: usize) -> [u32; 32]
-    requires { size ≤ 32 }
-    ensures rows { length result ≡ 32 }
+// Each number below `size` is at least itself.
+fn identity(size: usize) -> [u32; MAX_RULES]
+    requires { size ≤ MAX_RULES }
+    ensures rows { length result ≡ MAX_RULES }
     ensures related { (a b : ℕ) → related result a b ≡ (nat_lt a size && a == b) }
 {
-    let mut rows = [0; 32];
+    let mut rows = [0; MAX_RULES];
     for a in 0..size {
         rows[a] = 1 << a;
     }
     rows
 }
 
-/// States that `upper` is at least `lower`.
+// States that `upper` is at least `lower`.
 fn state(rows: &mut [u32], upper: usize, lower: usize)
-    requires upper { upper < 32 }
+    requires upper { upper < MAX_RULES }
     requires lower { lower < length rows.old }
-    ensures { (a b : ℕ) → related rows.new a b ≡ (related rows.old a b || (related rows.old a upper && related rows.old lower b)) }
+    ensures { (a b : ℕ) → related rows.new a b
+        ≡ (related rows.old a b || (related rows.old a upper && related rows.old lower b)) }
 {
     let below = rows[lower];
     for a in 0..rows.len() {
@@ -56,10 +62,12 @@ fn state(rows: &mut [u32], upper: usize, lower: usize)
 impl Preorder {
     ghost use Rattle.preorder.specs.Preorder.{rules_of, at_least, above, same, IsFaultOf};
 
-    /// The smallest reflexive and transitive relation on the numbers below `n` that holds the pairs.
-    /// A pair `(u, l)` states that `u` is at least `l`.
+    /// The smallest reflexive and transitive relation on the numbers below `n` that holds the
+    /// pairs.
+    /// A pair `(u, l)` states that `u` is at least `l`. There are at most `MAX_RULES` rules.
+    /// `OutOfRange` where a pair has a number that is not below `n`.
     pub fn from_statements(n: usize, pairs: &[(usize, usize)]) -> Result<Preorder, PreorderFault>
-        requires { n ≤ 32 }
+        requires { n ≤ MAX_RULES }
         ensures size { IfOk result (λ order. rules_of order ≡ n) }
         ensures closure { IfOk result (λ order. IsClosure pairs.now n (at_least order)) }
         ensures in_range { OnOk result (All (InRange n) pairs.now) }
@@ -75,9 +83,9 @@ impl Preorder {
         Ok(Preorder { size: n, rows })
     }
 
-    /// How many rules it orders.
+    /// How many rules it orders, at most `MAX_RULES`.
     pub fn len(&self) -> usize
-        ensures fits { result ≤ 32 }
+        ensures fits { result ≤ MAX_RULES }
         ensures value { result ≡ rules_of self.now }
     {
         self.size

@@ -1,4 +1,5 @@
-ghost use Rattle.std.specs.Prelude.{◌≡◌, ◌≤◌, ◌<◌, ◌+◌, ◌^◌, length, replicate, slice_index, slice_set, IfOk, IsOk, IsTrue, ◌↔◌};
+ghost use Rattle.std.specs.Prelude.{◌≡◌, ◌≤◌, ◌<◌, ◌+◌, ◌^◌, length, replicate, slice_index};
+ghost use Rattle.std.specs.Prelude.{slice_set, IfOk, IsOk, IsTrue, ◌↔◌};
 ghost use Rattle.preorder.specs.Violation.{IsWidth};
 
 use crate::memory::NoMemory;
@@ -6,7 +7,8 @@ use smallvec::SmallVec;
 use std::alloc::Global;
 use std::marker::Model;
 
-/// The violations of 1 to 32 rules, in the rules' order: how much a trajectory violates each, where 0 is not at all.
+/// The violations of 1 to `MAX_RULES` rules, in the rules' order: how much a trajectory violates
+/// each, where 0 is not at all.
 #[derive(Drop)]
 pub struct Violation {
     values: SmallVec<u64, 8>,

@@ -1,3 +1,4 @@
+pub mod Truth
 pub mod Places
 pub mod Digits
 pub mod LineLaws

@@ -5,6 +5,7 @@ use Rattle.std.specs.Str.Lines.{strip_carriage_return}
 use Rattle.std.proofs.lemmas.Bool.{ltb-true, ltb-false}
 use Rattle.std.proofs.lemmas.List.{drop_all, take_rest}
 use Rattle.reading.specs.Lines.{first_line, after_line, is_feed}
+use Rattle.reading.proofs.Truth.{refused}
 
 chosen : (b : Bool) (n i : ℕ) → cond b (Some n) None ≡ Some i → (b ≡ true) × (n ≡ i)
 chosen true n i e = (refl, cc)
@@ -14,10 +15,6 @@ pub position_is : (p : ℕ → Bool) (xs : List ℕ) (i : ℕ) → position p xs
 position_is p xs i e =
     let k = chosen (ltb (position_or_len p xs) (length xs)) (position_or_len p xs) i e in
     (k.1, omega (arith, ltb-true _ _ k.0))
-
-refused : (b : Bool) (n : ℕ) → cond b (Some n) None ≡ None → b ≡ false
-refused true n e = absurd cc
-refused false n e = refl
 
 pub no_position : (p : ℕ → Bool) (xs : List ℕ) → position p xs ≡ None → length xs ≤ position_or_len p xs
 no_position p xs e = ltb-false (position_or_len p xs) (length xs) (refused (ltb (position_or_len p xs) (length xs)) (position_or_len p xs) e)

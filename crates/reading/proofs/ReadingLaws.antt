@@ -1,22 +1,25 @@
--- A loop over the lines of a file.
+-- A loop over the items of a file.
 use Rattle.std.proofs.Common.{◌≡◌, ℕ, suc, ◌+◌, ◌<◌, ◌≤◌, Bool, true, false, List, [], ◌∷◌, ◌++◌, length, get_or, drop, Result, Ok, Err, refl, sym, ap, map, add-one, append_assoc, drop-cons, arith}
 use Rattle.std.specs.Bool.{OnFalse}
 use Rattle.std.proofs.lemmas.List.{append-nil, drop_all, length-map, get_or-map}
-use Rattle.reading.specs.Reading.{◌>>=◌, read_lines, read_each}
+use Rattle.reading.specs.Reading.{◌>>=◌, read_numbered, read_each}
 
-pub lines_go_on : {S F : Type 0} (step : ℕ → List ℕ → S → Result S F) (n : ℕ) (lines : List (List ℕ)) (s : S) (line : List ℕ) (rest : List (List ℕ)) (t : S)
-    → lines ≡ line ∷ rest → step n line s ≡ Ok t → read_lines step n lines s ≡ read_lines step (n + 1) rest t
-unfolding read_lines
-lines_go_on step n lines s line rest t e h = rw (e, h) refl
+pub items_go_on : {X S F : Type 0} (step : ℕ → X → S → Result S F) (n : ℕ) (items : List X) (s : S)
+    (item : X) (rest : List X) (t : S) → items ≡ item ∷ rest → step n item s ≡ Ok t
+    → read_numbered step n items s ≡ read_numbered step (n + 1) rest t
+unfolding read_numbered
+items_go_on step n items s item rest t e h = rw (e, h) refl
 
-pub lines_stop : {S F : Type 0} (step : ℕ → List ℕ → S → Result S F) (n : ℕ) (lines : List (List ℕ)) (s : S) (line : List ℕ) (rest : List (List ℕ)) (f : F)
-    → lines ≡ line ∷ rest → step n line s ≡ Err f → read_lines step n lines s ≡ Err f
-unfolding read_lines
-lines_stop step n lines s line rest f e h = rw (e, h) refl
+pub items_stop : {X S F : Type 0} (step : ℕ → X → S → Result S F) (n : ℕ) (items : List X) (s : S)
+    (item : X) (rest : List X) (f : F) → items ≡ item ∷ rest → step n item s ≡ Err f
+    → read_numbered step n items s ≡ Err f
+unfolding read_numbered
+items_stop step n items s item rest f e h = rw (e, h) refl
 
-pub lines_done : {S F : Type 0} (step : ℕ → List ℕ → S → Result S F) (n : ℕ) (lines : List (List ℕ)) (s : S) → lines ≡ [] → read_lines step n lines s ≡ Ok s
-unfolding read_lines
-lines_done step n lines s e = rw e refl
+pub items_done : {X S F : Type 0} (step : ℕ → X → S → Result S F) (n : ℕ) (items : List X) (s : S)
+    → items ≡ [] → read_numbered step n items s ≡ Ok s
+unfolding read_numbered
+items_done step n items s e = rw e refl
 
 -- what was read before, and what is still read
 abbrev pub with_front : {Y F : Type 0} → List Y → Result (List Y) F → Result (List Y) F

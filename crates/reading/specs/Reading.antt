@@ -8,27 +8,37 @@ abbrev pub ◌>>=◌ : {F A B : Type 0} → Result A F → (A → Result B F) �
 (Ok x) >>= f = f x
 (Err e) >>= f = Err e
 
--- What a call returned, seen by view, is what reading gives. A fault that is_free may come at any time.
+-- What a call returned, seen by view, is what reading gives. A fault that is_free may come at any
+-- time.
 abbrev pub Gives : {X Y F : Type 0} → (F → Bool) → (X → Y) → Result X F → Result Y F → Type 0
 Gives is_free view (Ok x) read = read ≡ Ok (view x)
 Gives is_free view (Err e) read = OnFalse (is_free e) (read ≡ Err e)
 
--- Reads lines one after the other, the first of them the n-th of its file, from what was read so far.
-unfoldable pub read_lines : {S F : Type 0} → (ℕ → List ℕ → S → Result S F) → ℕ → List (List ℕ) → S → Result S F
-read_lines step n [] s = Ok s
-read_lines step n (line ∷ lines) s = step n line s >>= read_lines step (n + 1) lines
+-- Reads items one after the other, the first of them the n-th of its file, from what was read so
+-- far.
+unfoldable pub read_numbered : {X S F : Type 0}
+    → (ℕ → X → S → Result S F) → ℕ → List X → S → Result S F
+read_numbered step n [] s = Ok s
+read_numbered step n (x ∷ xs) s = step n x s >>= read_numbered step (n + 1) xs
+
+-- Reads items one after the other, from what was read so far.
+unfoldable pub read_all : {X S F : Type 0} → (X → S → Result S F) → List X → S → Result S F
+read_all step [] s = Ok s
+read_all step (x ∷ xs) s = step x s >>= read_all step xs
 
 -- Reads each item, in order.
 unfoldable pub read_each : {X Y F : Type 0} → (X → Result Y F) → List X → Result (List Y) F
 read_each read [] = Ok []
 read_each read (x ∷ xs) = read x >>= λ y. read_each read xs >>= λ ys. Ok (y ∷ ys)
 
--- The first fault: lines before it were all read, and then this line was refused, by its number and what was read so far.
-pub record IsFirstFault {S F : Type 0} (step : ℕ → List ℕ → S → Result S F) (n : ℕ) (lines : List (List ℕ)) (s : S) (f : F) : Type 0 where
-  pub before : List (List ℕ)
-  pub line : List ℕ
-  pub after : List (List ℕ)
+-- The first fault: the items before it were all read, and then this item was refused, by its number
+-- and what was read so far.
+pub record IsFirstFault {X S F : Type 0} (step : ℕ → X → S → Result S F) (n : ℕ) (items : List X)
+    (s : S) (f : F) : Type 0 where
+  pub before : List X
+  pub item : X
+  pub after : List X
   pub state : S
-  pub cut : lines ≡ before ++ line ∷ after
-  pub fine : read_lines step n before s ≡ Ok state
-  pub refused : step (n + length before) line state ≡ Err f
+  pub cut : items ≡ before ++ item ∷ after
+  pub fine : read_numbered step n before s ≡ Ok state
+  pub refused : step (n + length before) item state ≡ Err f

@@ -15,7 +15,8 @@ pub fn words_of(alloc: Global, line: &[u8]) -> Result<Vec<&[u8]>, AllocError>
 /// More than any number that a file may hold.
 pub const PAST: u64 = 1_000_000_000_000_000_001;
 
-/// The number that a word of digits is, where `PAST` stands for each number beyond it. None where the word is not of digits.
+/// The number that a word of digits is, where `PAST` stands for each number beyond it. None where
+/// the word is empty or has a byte that is no digit.
 #[tactic(auto, unfolding(crate::specs::Words::number_of))]
 pub fn number_in(word: &[u8]) -> Option<u64>
     ensures { result ≡ option_map (λ n. min n PAST) (number_of word.now) }

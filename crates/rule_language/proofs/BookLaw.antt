@@ -14,12 +14,13 @@ use Rattle.preorder.specs.Name.{is_name}
 use Rattle.preorder.specs.Statements.{InRange}
 use Rattle.reading.specs.Lines.{lines_of}
 use Rattle.reading.specs.Words.{words}
-use Rattle.reading.specs.Reading.{read_lines}
+use Rattle.reading.specs.Reading.{read_numbered}
 use Rattle.reading.proofs.Spelling.{words-word, words-last}
 use Rattle.expressions.proofs.Lengths.{name_short}
-use Rattle.expressions.proofs.Lexemes.{both}
+use Rattle.reading.proofs.Truth.{both}
 use Rattle.expressions.specs.declared.limits.TheConstants.{MAX_LINE}
-use Rattle.rule_language.specs.declared.limits.TheConstants.{MAX_RULES, MAX_PARTS, MAX_WEIGHT}
+use Rattle.rule_language.specs.declared.limits.TheConstants.{MAX_PARTS, MAX_WEIGHT}
+use Rattle.preorder.specs.declared.limits.TheConstants.{MAX_RULES}
 use Rattle.rule_language.specs.declared.book.Book.{Book}
 use Rattle.rule_language.specs.declared.book.Rule.{Rule}
 use Rattle.rule_language.specs.declared.part.Part.{Part}
@@ -27,7 +28,7 @@ use Rattle.rule_language.specs.LineFiles.{by_words, line_text}
 use Rattle.rule_language.specs.Parts.{part_text, part_fits, IsPart}
 use Rattle.rule_language.specs.Writing.{line, part_line_text, rule_text, name_at, statement_text, book_text}
 use Rattle.rule_language.proofs.OneByOne.{NotNamed, MayFollow, AreRules, OneByOne, one_by_one}
-use Rattle.rule_language.specs.Books.{place_of, rule_line, known, pair, above_line, pair_line, add_part, add_named, nameless, IsBook, book_words, book_line, no_lines, book_of}
+use Rattle.rule_language.specs.Books.{place_of, rule_line, pair, above_line, pair_line, add_part, add_named, nameless, IsBook, book_words, book_line, no_lines, book_of, named_rule}
 use Rattle.rule_language.proofs.PartLaw.{name_bytes, name_some, blank_free, by_the_words}
 use Rattle.rule_language.proofs.Plain.{is_text_byte, IsText, content_of, line_of, text_then, text_codes, text_name, text_byte, text_part}
 
@@ -36,7 +37,7 @@ book rules statements = record { rules = rules; statements = statements }
 
 -- after the text, reading goes on from the other book
 record Does (text : List ℕ) (b c : Book) : Type 0 where
-  on : (n : ℕ) (rest : List ℕ) → (m : ℕ) × (read_lines book_line n (lines_of (text ++ rest)) b ≡ read_lines book_line m (lines_of rest) c)
+  on : (n : ℕ) (rest : List ℕ) → (m : ℕ) × (read_numbered book_line n (lines_of (text ++ rest)) b ≡ read_numbered book_line m (lines_of rest) c)
 
 nothing : (b : Book) → Does [] b b
 nothing b = record { on = λ n rest. (n, refl) }
@@ -46,15 +47,15 @@ next s t b c d p q = record {
   on = λ n rest.
       let x = p.on n (t ++ rest) in
       let y = q.on x.0 rest in
-      (y.0, ap (λ (z : List ℕ). read_lines book_line n (lines_of z) b) (append_assoc s t rest) ∙ x.1 ∙ y.1);
+      (y.0, ap (λ (z : List ℕ). read_numbered book_line n (lines_of z) b) (append_assoc s t rest) ∙ x.1 ∙ y.1);
 }
 
 one_line : (text : List ℕ) (b c : Book) → IsText text → length text ≤ MAX_LINE → ((n : ℕ) → by_words book_words n (words text) b ≡ Ok c) → Does (line text) b c
-unfolding read_lines line_text
+unfolding read_numbered line_text
 one_line text b c is short step = record {
   on = λ n rest.
       let fits : nat_lt MAX_LINE (length text) ≡ false = grind (arith, nat_tests, short) in
-      (n + 1, ap (λ (z : List ℕ). read_lines book_line n (lines_of z) b) (append_assoc text (10 ∷ []) rest) ∙ rw (line_of text rest is, fits, content_of text is, step n) refl);
+      (n + 1, ap (λ (z : List ℕ). read_numbered book_line n (lines_of z) b) (append_assoc text (10 ∷ []) rest) ∙ rw (line_of text rest is, fits, content_of text is, step n) refl);
 }
 
 -- ---- where a rule stands
@@ -101,7 +102,7 @@ rule_does name done ss named new few =
 
 part_added : (n : ℕ) (r : Rule) (part : Part) (done : List Rule) (ss : List (ℕ × ℕ)) → NotNamed r.name done → IsPart r.name part → length r.parts < MAX_PARTS
     → add_named n r.name part (book (done ++ r ∷ []) ss) ≡ Ok (book (done ++ (record r { parts = r.parts ++ part ∷ [] }) ∷ []) ss)
-unfolding known add_part
+unfolding named_rule add_part
 part_added n r part done ss new is few =
     let low : nat_le 1 part.weight ≡ true = grind (arith, nat_tests, is.weighs) in
     let high : nat_le part.weight MAX_WEIGHT ≡ true = grind (arith, nat_tests, is.weight) in
@@ -170,7 +171,7 @@ stands (r ∷ rs) done (suc i) h lt =
 
 statement_added : (n : ℕ) (rules : List Rule) (ss : List (ℕ × ℕ)) (p : ℕ × ℕ) → Stands [] rules p.0 → Stands [] rules p.1
     → book_words n (codes "above" ∷ name_at rules p.0 ∷ name_at rules p.1 ∷ []) (book rules ss) ≡ Ok (book rules (ss ++ p ∷ []))
-unfolding book_words pair_line above_line pair known
+unfolding book_words pair_line above_line pair named_rule
 statement_added n rules ss p a b =
     let i : place_of (name_at rules p.0) rules ≡ Some p.0 = a.place ∙ ap (λ (m : ℕ). Some m) (omega arith) in
     let j : place_of (name_at rules p.1) rules ≡ Some p.1 = b.place ∙ ap (λ (m : ℕ). Some m) (omega arith) in
@@ -199,12 +200,12 @@ statements_do (p ∷ ps) rules ss h all =
 
 -- ---- the book
 
-pub lines_again : (b : Book) → OneByOne b → read_lines book_line 1 (lines_of (book_text b)) no_lines ≡ Ok b
-unfolding read_lines lines_of
+pub lines_again : (b : Book) → OneByOne b → read_numbered book_line 1 (lines_of (book_text b)) no_lines ≡ Ok b
+unfolding read_numbered lines_of
 lines_again b h =
     let d = next (flat_map rule_text b.rules) (flat_map (statement_text b.rules) b.statements) (book [] []) (book b.rules []) (book b.rules b.statements) (rules_do b.rules [] [] h.rules) (statements_do b.statements b.rules [] h.rules h.statements) in
     let x = d.on 1 [] in
-    ap (λ (z : List ℕ). read_lines book_line 1 (lines_of z) no_lines) (sym (append-nil (book_text b))) ∙ x.1
+    ap (λ (z : List ℕ). read_numbered book_line 1 (lines_of z) no_lines) (sym (append-nil (book_text b))) ∙ x.1
 
 -- ---- it is ASCII
 

@@ -11,9 +11,10 @@ use Rattle.preorder.specs.Name.{is_name}
 use Rattle.preorder.specs.Statements.{InRange}
 use Rattle.reading.specs.Lines.{lines_of}
 use Rattle.reading.specs.Words.{words}
-use Rattle.reading.specs.Reading.{◌>>=◌, Gives, read_lines}
+use Rattle.reading.specs.Reading.{◌>>=◌, Gives, read_numbered}
 use Rattle.expressions.specs.declared.limits.TheConstants.{MAX_LINE}
-use Rattle.rule_language.specs.declared.limits.TheConstants.{MAX_RULES, MAX_PARTS, MAX_WEIGHT}
+use Rattle.rule_language.specs.declared.limits.TheConstants.{MAX_PARTS, MAX_WEIGHT}
+use Rattle.preorder.specs.declared.limits.TheConstants.{MAX_RULES}
 use Rattle.rule_language.specs.declared.book.Book.{Book}
 use Rattle.rule_language.specs.declared.book.Rule.{Rule}
 use Rattle.rule_language.specs.declared.book.BookFault.{BookFault}
@@ -21,8 +22,8 @@ use Rattle.rule_language.specs.declared.book.BookFault.TheVariants.{NotUtf8, Syn
 use Rattle.rule_language.specs.declared.part.Part.{Part}
 use Rattle.rule_language.specs.LineFiles.{content, by_words, line_text}
 use Rattle.rule_language.specs.Parts.{IsPart}
-use Rattle.rule_language.specs.Books.{is_memory, place_of, rule_line, or_unknown, known, pair, above_line, same_line, pair_line, part_of, add_part, part_line, with_part, nameless, IsBook, book_words, book_line, no_lines, with_rules, book_of}
-use Rattle.expressions.proofs.Lexemes.{both}
+use Rattle.rule_language.specs.Books.{is_memory, place_of, rule_line, or_unknown, pair, above_line, same_line, pair_line, part_of, add_part, part_line, with_part, nameless, IsBook, book_words, book_line, no_lines, with_rules, book_of, named_rule}
+use Rattle.reading.proofs.Truth.{both}
 use Rattle.rule_language.proofs.OneByOne.{NotNamed, MayFollow, AreRules, OneByOne, is_book}
 use Rattle.rule_language.proofs.PartSound.{part_sound}
 
@@ -83,8 +84,8 @@ record Known (name : List ℕ) (rules : List Rule) (i : ℕ) : Type 0 where
   inside : i < length rules
   same : (d : Rule) → (get_or rules i d).name ≡ name
 
-known_is : (n : ℕ) (name : List ℕ) (rules : List Rule) (i : ℕ) → known n name rules ≡ Ok i → Known name rules i
-unfolding known place_of
+known_is : (n : ℕ) (name : List ℕ) (rules : List Rule) (i : ℕ) → named_rule n name rules ≡ Ok i → Known name rules i
+unfolding named_rule place_of
 known_is n name rules i e = at (position (λ (r : Rule). bytes_eq r.name name) rules) refl e where
   at : (o : Option ℕ) → position (λ (r : Rule). bytes_eq r.name name) rules ≡ o → or_unknown n o ≡ Ok i → Known name rules i
   at (Some j) f h =
@@ -146,17 +147,17 @@ rule_keeps n name b k =
 pub pair_in : (n : ℕ) (x y : List ℕ) (rules : List Rule) (p : ℕ × ℕ) → pair n x y rules ≡ Ok p → InRange (length rules) p
 unfolding pair
 pair_in n x y rules p e = at (not (is_name x && is_name y)) e where
-  second : (i : ℕ) → i < length rules → (r : Result ℕ BookFault) → known n y rules ≡ r → (r >>= λ j. Ok (i, j)) ≡ Ok p → InRange (length rules) p
+  second : (i : ℕ) → i < length rules → (r : Result ℕ BookFault) → named_rule n y rules ≡ r → (r >>= λ j. Ok (i, j)) ≡ Ok p → InRange (length rules) p
   second i lt (Ok j) f h = let same : ◌≡◌ {A = ℕ × ℕ} (i, j) p = cc in subst (InRange (length rules)) same (lt, (known_is n y rules j f).inside)
   second i lt (Err g) f h = absurd cc
 
-  first : (r : Result ℕ BookFault) → known n x rules ≡ r → (r >>= λ i. known n y rules >>= λ j. Ok (i, j)) ≡ Ok p → InRange (length rules) p
-  first (Ok i) f h = second i (known_is n x rules i f).inside (known n y rules) refl h
+  first : (r : Result ℕ BookFault) → named_rule n x rules ≡ r → (r >>= λ i. named_rule n y rules >>= λ j. Ok (i, j)) ≡ Ok p → InRange (length rules) p
+  first (Ok i) f h = second i (known_is n x rules i f).inside (named_rule n y rules) refl h
   first (Err g) f h = absurd cc
 
-  at : (t : Bool) → cond t (Err (Syntax n)) (known n x rules >>= λ i. known n y rules >>= λ j. Ok (i, j)) ≡ Ok p → InRange (length rules) p
+  at : (t : Bool) → cond t (Err (Syntax n)) (named_rule n x rules >>= λ i. named_rule n y rules >>= λ j. Ok (i, j)) ≡ Ok p → InRange (length rules) p
   at true h = absurd cc
-  at false h = first (known n x rules) refl h
+  at false h = first (named_rule n x rules) refl h
 
 above_keeps : (n : ℕ) (x y : List ℕ) (b : Book) → Kept b → Keeps (above_line n x y b)
 unfolding above_line
@@ -176,7 +177,7 @@ same_keeps n x y b k = followed (pair n x y b.rules) _ (λ p e.
 part_keeps : (n : ℕ) (at_end : Bool) (name weight : List ℕ) (expr : List (List ℕ)) (b : Book) → Kept b → Keeps (part_line n at_end name weight expr b)
 unfolding part_line add_part
 part_keeps n at_end name weight expr b k =
-    followed (part_of n at_end name weight expr) _ (λ part e. followed (known n name b.rules) _ (λ i f.
+    followed (part_of n at_end name weight expr) _ (λ part e. followed (named_rule n name b.rules) _ (λ i f.
     let at = known_is n name b.rules i f in
     tested (not (nat_le 1 part.weight && nat_le part.weight MAX_WEIGHT)) (BadWeight n) _ (λ p. tested (nat_le MAX_PARTS (length (slice_index_or b.rules i nameless).parts)) (TooManyParts n) _ (λ q.
     let t = both (nat_le 1 part.weight) (nat_le part.weight MAX_WEIGHT) (truth (nat_le 1 part.weight && nat_le part.weight MAX_WEIGHT) p) in
@@ -207,8 +208,8 @@ line_keeps n line b k = tested (nat_lt MAX_LINE (length line)) (Syntax n) _ (λ 
   on [] = gives b k
   on (w ∷ ws) = words_keep n (w ∷ ws) b k
 
-lines_keep : (lines : List (List ℕ)) (n : ℕ) (b : Book) → Kept b → Keeps (read_lines book_line n lines b)
-unfolding read_lines
+lines_keep : (lines : List (List ℕ)) (n : ℕ) (b : Book) → Kept b → Keeps (read_numbered book_line n lines b)
+unfolding read_numbered
 lines_keep [] n b k = gives b k
 lines_keep (line ∷ lines) n b k = followed (book_line n line b) _ (λ c e. lines_keep lines (n + 1) c (line_keeps n line b k c e))
 
@@ -223,8 +224,8 @@ book_kept bytes b e = at (is_utf8 bytes) e where
   read (Ok c) k h = some c (nat_le 1 (length c.rules)) refl (k c refl) h
   read (Err f) k h = absurd cc
 
-  at : (t : Bool) → cond t (read_lines book_line 1 (lines_of bytes) no_lines >>= with_rules) (Err NotUtf8) ≡ Ok b → OneByOne b
-  at true h = read (read_lines book_line 1 (lines_of bytes) no_lines) (lines_keep (lines_of bytes) 1 no_lines (record { rules = tt; statements = tt })) h
+  at : (t : Bool) → cond t (read_numbered book_line 1 (lines_of bytes) no_lines >>= with_rules) (Err NotUtf8) ≡ Ok b → OneByOne b
+  at true h = read (read_numbered book_line 1 (lines_of bytes) no_lines) (lines_keep (lines_of bytes) 1 no_lines (record { rules = tt; statements = tt })) h
   at false h = absurd cc
 
 pub read_is_book : (bytes : List ℕ) (r : Result Book BookFault) → Gives is_memory (λ b. b) r (book_of bytes) → IfOk r IsBook

@@ -6,7 +6,7 @@ use Rattle.std.proofs.lemmas.Bool.{both_ways}
 use Rattle.std.proofs.lemmas.List.Folds.{list_any_at}
 use Rattle.std.proofs.lemmas.List.Quantifiers.{all_pairs_push}
 use Rattle.std.proofs.lemmas.Slice.Eq.{bytes_eq-Decides}
-use Rattle.expressions.proofs.Lexemes.{refuted}
+use Rattle.reading.proofs.Truth.{refuted}
 use Rattle.rule_language.specs.Names.{AreDifferent, has_name}
 
 -- one item more, whose name is new

@@ -9,10 +9,11 @@ use Rattle.std.proofs.lemmas.List.Elements.{All-push, All-nil, All-from_recursio
 use Rattle.std.proofs.lemmas.Slice.Eq.{bytes_eq-Decides}
 use Rattle.preorder.specs.Name.{is_name}
 use Rattle.preorder.specs.Statements.{InRange}
-use Rattle.expressions.proofs.Lexemes.{refuted}
+use Rattle.reading.proofs.Truth.{refuted}
 use Rattle.rule_language.specs.declared.book.Book.{Book}
 use Rattle.rule_language.specs.declared.book.Rule.{Rule}
-use Rattle.rule_language.specs.declared.limits.TheConstants.{MAX_RULES, MAX_PARTS}
+use Rattle.rule_language.specs.declared.limits.TheConstants.{MAX_PARTS}
+use Rattle.preorder.specs.declared.limits.TheConstants.{MAX_RULES}
 use Rattle.rule_language.specs.Names.{AreDifferent}
 use Rattle.rule_language.specs.Parts.{IsPart}
 use Rattle.rule_language.specs.Books.{IsRule, IsBook}

@@ -1,6 +1,6 @@
 -- The written form of a part is read as that part.
-use Rattle.std.proofs.Common.{◌≡◌, ℕ, ◌+◌, ◌<◌, ◌≤◌, ◌^◌, ◌%◌, ◌/◌, ◌&&◌, Bool, true, false, List, [], ◌∷◌, ◌++◌, length, Some, Ok, refl, sym, ap, ◌∙◌, arith, length-append, get_or}
-use Rattle.std.specs.Prelude.{All, nat_lt, nat_le, min, ◌==◌, codes, slice_index}
+use Rattle.std.proofs.Common.{◌≡◌, ℕ, ◌+◌, ◌<◌, ◌≤◌, ◌^◌, ◌%◌, ◌/◌, Bool, true, false, List, [], ◌∷◌, ◌++◌, length, Some, Ok, refl, sym, ap, ◌∙◌, arith, length-append, get_or}
+use Rattle.std.specs.Prelude.{All, nat_lt, nat_le, min, ◌==◌, codes}
 use Rattle.std.specs.List.{list_all}
 use Rattle.std.specs.Char.{is_ascii_digit}
 use Rattle.std.specs.Fmt.{decimal}
@@ -8,7 +8,7 @@ use Rattle.std.proofs.lemmas.Bool.{ne_eqb}
 use Rattle.std.proofs.lemmas.Bool.Decides.{nat_tests}
 use Rattle.std.proofs.lemmas.List.Folds.{list_all_at}
 use Rattle.std.proofs.lemmas.Fmt.{decimal_is_IsNumeral, decimal_by_steps}
-use Rattle.preorder.specs.Name.{is_name, is_name_byte, is_letter}
+use Rattle.preorder.specs.Name.{is_name, is_name_byte}
 use Rattle.reading.specs.Reading.{◌>>=◌, read_each}
 use Rattle.reading.specs.Words.{words, is_blank, number_of}
 use Rattle.reading.proofs.Spelling.{words-word}
@@ -17,7 +17,8 @@ use Rattle.expressions.specs.declared.tree.Expr.{Expr}
 use Rattle.expressions.specs.Tokens.{tokens_of}
 use Rattle.expressions.specs.Reading.{expr_of, tree_of, expr_at, term_at, factor_at}
 use Rattle.expressions.specs.Written.{written, nesting}
-use Rattle.expressions.proofs.Lexemes.{both, refuted}
+use Rattle.reading.proofs.Truth.{both, refuted}
+use Rattle.expressions.proofs.Spelled.{all_more, name_parts}
 use Rattle.expressions.proofs.Texts.{is_read}
 use Rattle.expressions.proofs.WrittenLaw.{written_is_text}
 use Rattle.expressions.specs.declared.limits.TheConstants.{MAX_BRACKETS, MAX_LINE}
@@ -25,7 +26,7 @@ use Rattle.rule_language.specs.declared.limits.TheConstants.{MAX_WEIGHT}
 use Rattle.rule_language.specs.declared.part.Part.{Part}
 use Rattle.rule_language.specs.Parts.{without_zeros, kind_of, part_text, part_fits, IsPart}
 use Rattle.rule_language.specs.declared.book.Book.{Book}
-use Rattle.rule_language.specs.Books.{part_of, book_words, part_line, known, add_part, add_named}
+use Rattle.rule_language.specs.Books.{part_of, book_words, part_line, add_part, add_named, named_rule}
 use Rattle.rule_language.specs.LineFiles.{by_words}
 
 -- ---- numbers in decimal
@@ -42,10 +43,6 @@ record IsDecimal (n : ℕ) (ds : List ℕ) : Type 0 where
 one : (n : ℕ) → n < 10 → IsDecimal n ((48 + n) ∷ [])
 one n h = record { all = grind (arith, nat_tests); some = omega arith; first = λ k. ne_eqb (48 + n) 48 (omega arith) }
 
-all_more : (ds : List ℕ) (b : ℕ) → list_all is_ascii_digit ds ≡ true → is_ascii_digit b ≡ true → list_all is_ascii_digit (ds ++ b ∷ []) ≡ true
-all_more [] b e f = rw f refl
-all_more (d ∷ ds) b e f = let k = both (is_ascii_digit d) (list_all is_ascii_digit ds) e in rw (k.0, all_more ds b k.1 f) refl
-
 first_more : (ds : List ℕ) (b : ℕ) → NoZeroFirst ds → NoZeroFirst (ds ++ b ∷ [])
 first_more [] b h = absurd h
 first_more (d ∷ ds) b h = h
@@ -54,7 +51,7 @@ more : (n : ℕ) (ds : List ℕ) → 10 ≤ n → IsDecimal (n / 10) ds → IsDe
 more n ds h d =
     let small : n % 10 < 10 = omega arith in
     let digit : is_ascii_digit (48 + n % 10) ≡ true = (both (is_ascii_digit (48 + n % 10)) true (one (n % 10) small).all).0 in
-    record { all = all_more ds (48 + n % 10) d.all digit; some = omega (arith, length-append ds ((48 + n % 10) ∷ [])); first = λ k. first_more ds (48 + n % 10) (d.first (omega arith)) }
+    record { all = all_more is_ascii_digit ds (48 + n % 10) d.all digit; some = omega (arith, length-append ds ((48 + n % 10) ∷ [])); first = λ k. first_more ds (48 + n % 10) (d.first (omega arith)) }
 
 decimal_is : (n : ℕ) → n < 2 ^ 64 → IsDecimal n (decimal n)
 decimal_is = decimal_by_steps IsDecimal one more
@@ -103,23 +100,6 @@ byte_at w i d false lt e all = let no : true ≡ false = sym all ∙ list_all_at
 pub blank_free : (w : List ℕ) → list_all is_name_byte w ≡ true → All (λ b. is_blank b ≡ false) w
 blank_free w e = λ i d lt. no_blank (get_or w i d) (byte_at w i d (is_name_byte (get_or w i d)) lt refl e)
 
-four : (a b c d : Bool) → (a && (b && (c && d))) ≡ true → (a ≡ true) × (d ≡ true)
-four true true true true e = (refl, refl)
-four true true true false e = absurd cc
-four true true false d e = absurd cc
-four true false c d e = absurd cc
-four false b c d e = absurd cc
-
-record NameParts (name : List ℕ) : Type 0 where
-  some : 0 < length name
-  bytes : list_all is_name_byte name ≡ true
-
-name_parts : (name : List ℕ) → is_name name ≡ true → NameParts name
-unfolding is_name
-name_parts name e =
-    let p = four (nat_lt 0 (length name)) (nat_le (length name) 24) (is_letter (slice_index name 0)) (list_all is_name_byte name) e in
-    record { some = grind (arith, nat_tests, p.0); bytes = p.1 }
-
 digit_bytes : (ds : List ℕ) → list_all is_ascii_digit ds ≡ true → list_all is_name_byte ds ≡ true
 digit_bytes [] e = refl
 digit_bytes (d ∷ ds) e =
@@ -158,7 +138,7 @@ at_words n true name weight word others book = refl
 at_words n false name weight word others book = refl
 
 of_part : (n : ℕ) (name : List ℕ) (part : Part) (book : Book) → is_name name ≡ true → IsPart name part
-    → part_line n part.at_end name (decimal part.weight) (words (written part.expr)) book ≡ (known n name book.rules >>= λ i. add_part n i part book)
+    → part_line n part.at_end name (decimal part.weight) (words (written part.expr)) book ≡ (named_rule n name book.rules >>= λ i. add_part n i part book)
 unfolding part_line
 of_part n name part book named is = rw (part_again n name part named is) refl
 
@@ -173,7 +153,7 @@ decimal_bytes n h = digit_bytes (decimal n) (decimal_is n h).all
 
 -- A written line of a part does what the part does to the book.
 pub part_line_again : (n : ℕ) (name : List ℕ) (part : Part) (book : Book) → is_name name ≡ true → IsPart name part
-    → book_words n (words (part_text part.at_end name (decimal part.weight) part.expr)) book ≡ (known n name book.rules >>= λ i. add_part n i part book)
+    → book_words n (words (part_text part.at_end name (decimal part.weight) part.expr)) book ≡ (named_rule n name book.rules >>= λ i. add_part n i part book)
 part_line_again n name part book named is =
     let e = part.expr in
     let f = filled (words (written e)) e (read_again name part is) in

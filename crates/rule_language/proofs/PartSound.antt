@@ -18,7 +18,7 @@ use Rattle.expressions.specs.declared.fault.ExprFault.TheVariants.{Syntax as NoE
 use Rattle.expressions.specs.declared.tree.Expr.{Expr}
 use Rattle.expressions.specs.Reading.{expr_of}
 use Rattle.expressions.specs.Written.{is_well_formed}
-use Rattle.expressions.proofs.Lexemes.{both}
+use Rattle.reading.proofs.Truth.{both}
 use Rattle.expressions.proofs.Texts.{spelled}
 use Rattle.expressions.proofs.WellFormed.{read_is_well_formed}
 use Rattle.rule_language.specs.declared.limits.TheConstants.{MAX_WEIGHT}

@@ -16,7 +16,7 @@ use Rattle.expressions.specs.declared.tree.Expr.{Expr}
 use Rattle.expressions.specs.declared.tree.Expr.TheViews.{roll-Expr}
 use Rattle.expressions.specs.declared.tree.Expr.TheOpen.{Expr-F}
 use Rattle.expressions.specs.declared.tree.Expr.TheFolds.{fold-roll-Expr, ind-Expr, map-Expr}
-use Rattle.expressions.proofs.Lexemes.{both, refuted}
+use Rattle.reading.proofs.Truth.{both, refuted}
 use Rattle.expressions.specs.Grammar.{is_reserved}
 use Rattle.expressions.specs.declared.limits.TheConstants.{MAX_CONSTANT, MAX_DIVISOR, MAX_ARGUMENT_DIGITS}
 use Rattle.expressions.specs.Written.{call, listed, signed, written, written_step, is_from_to, is_feature, is_well_formed, well_formed_step}

@@ -1,15 +1,19 @@
--- What a book says: its rules and its statements on them, or the first fault. This project's own text for the rulebooks of Censi and others, 2019.
-use Rattle.std.specs.Prelude.{ℕ, ◌≤◌, min, slice_set, slice_index_or, ◌++◌, Bool, true, false, not, ◌&&◌, List, [], ◌∷◌, length, All, Option, Some, None, Result, Ok, Err, nat_le, is_some, if◌then◌else◌, codes, IsTrue}
+-- What a book says: its rules and its statements on them, or the first fault. This project's own
+-- text for the rulebooks of Censi and others, 2019.
+use Rattle.std.specs.Prelude.{ℕ, ◌≤◌, min, slice_set, slice_index_or, ◌++◌, Bool, true, false, not}
+use Rattle.std.specs.Prelude.{◌&&◌, List, [], ◌∷◌, length, All, Option, Some, None, Result, Ok, Err}
+use Rattle.std.specs.Prelude.{nat_le, is_some, if◌then◌else◌, codes, IsTrue}
 use Rattle.std.specs.List.{position}
 use Rattle.std.specs.Str.{bytes_eq, is_utf8}
 use Rattle.preorder.specs.Name.{is_name}
 use Rattle.preorder.specs.Statements.{InRange}
 use Rattle.reading.specs.Lines.{lines_of}
-use Rattle.reading.specs.Reading.{◌>>=◌, read_lines}
+use Rattle.reading.specs.Reading.{◌>>=◌, read_numbered}
 use Rattle.reading.specs.Words.{number_of}
 use Rattle.reading.specs.declared.words.TheConstants.{PAST}
 use Rattle.expressions.specs.declared.fault.ExprFault.{ExprFault}
-use Rattle.expressions.specs.declared.fault.ExprFault.TheVariants.{Syntax as NoExpr, NoMemory as NoRoom}
+use Rattle.expressions.specs.declared.fault.ExprFault.TheVariants.{Syntax as NoExpr}
+use Rattle.expressions.specs.declared.fault.ExprFault.TheVariants.{NoMemory as NoRoom}
 use Rattle.expressions.specs.Reading.{expr_of}
 use Rattle.rule_language.specs.Parts.{part_fits, without_zeros, IsPart}
 use Rattle.rule_language.specs.LineFiles.{by_text, line_text}
@@ -17,9 +21,13 @@ use Rattle.rule_language.specs.Names.{AreDifferent}
 use Rattle.rule_language.specs.declared.book.Book.{Book}
 use Rattle.rule_language.specs.declared.book.Rule.{Rule}
 use Rattle.rule_language.specs.declared.part.Part.{Part}
-use Rattle.rule_language.specs.declared.limits.TheConstants.{MAX_RULES, MAX_PARTS, MAX_WEIGHT}
+use Rattle.rule_language.specs.declared.limits.TheConstants.{MAX_PARTS, MAX_WEIGHT}
+use Rattle.preorder.specs.declared.limits.TheConstants.{MAX_RULES}
 use Rattle.rule_language.specs.declared.book.BookFault.{BookFault}
-use Rattle.rule_language.specs.declared.book.BookFault.TheVariants.{NotUtf8, Syntax, UnknownName, DuplicateName, BadWeight, TooManyRules, TooManyParts, NoRules, NoMemory}
+use Rattle.rule_language.specs.declared.book.BookFault.TheVariants.{NotUtf8, Syntax, UnknownName}
+use Rattle.rule_language.specs.declared.book.BookFault.TheVariants.{DuplicateName, BadWeight}
+use Rattle.rule_language.specs.declared.book.BookFault.TheVariants.{TooManyRules, TooManyParts}
+use Rattle.rule_language.specs.declared.book.BookFault.TheVariants.{NoRules, NoMemory}
 
 -- the one fault that may come at any time
 abbrev pub is_memory : BookFault → Bool
@@ -50,22 +58,26 @@ or_unknown n None = Err (UnknownName n)
 or_unknown n (Some i) = Ok i
 
 -- the place of a rule of an earlier line
-unfoldable pub known : ℕ → List ℕ → List Rule → Result ℕ BookFault
-known n name rules = or_unknown n (place_of name rules)
+unfoldable pub named_rule : ℕ → List ℕ → List Rule → Result ℕ BookFault
+named_rule n name rules = or_unknown n (place_of name rules)
 
 -- the places of two rules of earlier lines
 unfoldable pub pair : ℕ → List ℕ → List ℕ → List Rule → Result (ℕ × ℕ) BookFault
 pair n a b rules =
     if not (is_name a && is_name b) then Err (Syntax n)
-    else known n a rules >>= λ i. known n b rules >>= λ j. Ok (i, j)
+    else named_rule n a rules >>= λ i. named_rule n b rules >>= λ j. Ok (i, j)
 
 -- `above A B`: the statement (A, B)
 unfoldable pub above_line : ℕ → List ℕ → List ℕ → Book → Result Book BookFault
-above_line n a b book = pair n a b book.rules >>= λ p. Ok (record book { statements = book.statements ++ p ∷ [] })
+above_line n a b book =
+    pair n a b book.rules >>= λ p. Ok (record book { statements = book.statements ++ p ∷ [] })
 
 -- `same A B`: the statements (A, B) and (B, A)
 unfoldable pub same_line : ℕ → List ℕ → List ℕ → Book → Result Book BookFault
-same_line n a b book = pair n a b book.rules >>= λ p. Ok (record book { statements = book.statements ++ p ∷ (p.1, p.0) ∷ [] })
+same_line n a b book =
+    pair n a b book.rules >>= λ p. Ok (record book {
+      statements = book.statements ++ p ∷ (p.1, p.0) ∷ [];
+    })
 
 -- what stands where there is no rule
 abbrev pub nameless : Rule
@@ -77,11 +89,13 @@ with_part i part book =
     let rule = slice_index_or book.rules i nameless in
     record book { rules = slice_set book.rules i (record rule { parts = rule.parts ++ part ∷ [] }) }
 
--- A weight is from 1 to the largest, and a rule has no more parts of both kinds together than it may have.
+-- A weight is from 1 to the largest, and a rule has no more parts of both kinds together than it
+-- may have.
 unfoldable pub add_part : ℕ → ℕ → Part → Book → Result Book BookFault
 add_part n i part book =
     if not (nat_le 1 part.weight && nat_le part.weight MAX_WEIGHT) then Err (BadWeight n)
-    else if nat_le MAX_PARTS (length (slice_index_or book.rules i nameless).parts) then Err (TooManyParts n)
+    else if nat_le MAX_PARTS (length (slice_index_or book.rules i nameless).parts)
+    then Err (TooManyParts n)
     else Ok (with_part i part book)
 
 abbrev pub or_syntax : {X : Type 0} → ℕ → Result X ExprFault → Result X BookFault
@@ -93,20 +107,24 @@ abbrev pub weight_from : ℕ → Option ℕ → Result ℕ BookFault
 weight_from n None = Err (Syntax n)
 weight_from n (Some weight) = Ok (min weight PAST)
 
--- the part of line n, by its words after the kind; its written line must fit, with the weight's value in decimal
+-- the part of line n, by its words after the kind; its written line must fit, with the weight's
+-- value in decimal
 unfoldable pub part_of : ℕ → Bool → List ℕ → List ℕ → List (List ℕ) → Result Part BookFault
 part_of n at_end name weight expr =
     if not (is_name name) then Err (Syntax n)
     else weight_from n (number_of weight) >>= λ w. or_syntax n (expr_of expr) >>= λ e.
-    if part_fits at_end name (without_zeros weight) e then Ok (record { weight = w; expr = e; at_end = at_end }) else Err (Syntax n)
+    if part_fits at_end name (without_zeros weight) e
+    then Ok (record { weight = w; expr = e; at_end = at_end }) else Err (Syntax n)
 
 -- one part more of the rule of this name
 abbrev pub add_named : ℕ → List ℕ → Part → Book → Result Book BookFault
-add_named n name part book = known n name book.rules >>= λ i. add_part n i part book
+add_named n name part book = named_rule n name book.rules >>= λ i. add_part n i part book
 
--- `part NAME WEIGHT EXPR` on line n, and with at_end `final NAME WEIGHT EXPR`: its form, then its rule, then its weight, then its rule's number of parts
+-- `part NAME WEIGHT EXPR` on line n, and with at_end `final NAME WEIGHT EXPR`: its form, then its
+-- rule, then its weight, then its rule's number of parts
 unfoldable pub part_line : ℕ → Bool → List ℕ → List ℕ → List (List ℕ) → Book → Result Book BookFault
-part_line n at_end name weight expr book = part_of n at_end name weight expr >>= λ part. add_named n name part book
+part_line n at_end name weight expr book =
+    part_of n at_end name weight expr >>= λ part. add_named n name part book
 
 -- a line of two names
 unfoldable pub pair_line : ℕ → List ℕ → List ℕ → List ℕ → Book → Result Book BookFault
@@ -117,7 +135,8 @@ pair_line n kind a b book =
 
 -- line n as its words
 unfoldable pub book_words : ℕ → List (List ℕ) → Book → Result Book BookFault
-book_words n (kind ∷ a ∷ []) book = if bytes_eq kind (codes "rule") then rule_line n a book else Err (Syntax n)
+book_words n (kind ∷ a ∷ []) book =
+    if bytes_eq kind (codes "rule") then rule_line n a book else Err (Syntax n)
 book_words n (kind ∷ a ∷ b ∷ []) book = pair_line n kind a b book
 book_words n (kind ∷ name ∷ weight ∷ word ∷ expr) book =
     if bytes_eq kind (codes "part") then part_line n false name weight (word ∷ expr) book
@@ -137,7 +156,9 @@ with_rules book = if nat_le 1 (length book.rules) then Ok book else Err NoRules
 
 -- the book of the bytes of a file
 unfoldable pub book_of : List ℕ → Result Book BookFault
-book_of bytes = if is_utf8 bytes then (read_lines book_line 1 (lines_of bytes) no_lines >>= with_rules) else Err NotUtf8
+book_of bytes =
+    if is_utf8 bytes then (read_numbered book_line 1 (lines_of bytes) no_lines >>= with_rules)
+    else Err NotUtf8
 
 -- what a rule of a well-formed book is
 pub record IsRule (rule : Rule) : Type 0 where
@@ -145,7 +166,8 @@ pub record IsRule (rule : Rule) : Type 0 where
   pub few : length rule.parts ≤ MAX_PARTS
   pub parts : All (IsPart rule.name) rule.parts
 
--- A well-formed book has at least one rule, its rules have names that are all different, and its statements are on rules that there are.
+-- A well-formed book has at least one rule, its rules have names that are all different, and its
+-- statements are on rules that there are.
 pub record IsBook (book : Book) : Type 0 where
   pub some : 1 ≤ length book.rules
   pub few : length book.rules ≤ MAX_RULES

@@ -2,9 +2,8 @@
 use Rattle.std.specs.Prelude.{ℕ, List, [], ◌∷◌, ◌++◌, codes, slice_index_or}
 use Rattle.std.specs.List.{flat_map}
 use Rattle.std.specs.Fmt.{decimal}
-use Rattle.expressions.specs.Bytes.{space}
+use Rattle.reading.specs.Bytes.{space, line_feed}
 use Rattle.rule_language.specs.Books.{nameless}
-use Rattle.rule_language.specs.Bytes.{line_feed}
 use Rattle.rule_language.specs.Parts.{part_text}
 use Rattle.rule_language.specs.declared.book.Book.{Book}
 use Rattle.rule_language.specs.declared.book.Rule.{Rule}
@@ -26,8 +25,10 @@ name_at rules i = (slice_index_or rules i nameless).name
 
 -- `above A B`
 abbrev pub statement_text : List Rule → ℕ × ℕ → List ℕ
-statement_text rules pair = line (codes "above " ++ (name_at rules pair.0 ++ (space ∷ name_at rules pair.1)))
+statement_text rules pair =
+    line (codes "above " ++ (name_at rules pair.0 ++ (space ∷ name_at rules pair.1)))
 
 -- the rules with their parts, and then the statements
 abbrev pub book_text : Book → List ℕ
-book_text book = flat_map rule_text book.rules ++ flat_map (statement_text book.rules) book.statements
+book_text book =
+    flat_map rule_text book.rules ++ flat_map (statement_text book.rules) book.statements

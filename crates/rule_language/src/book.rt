@@ -7,41 +7,45 @@ ghost use Rattle.reading.specs.Lines.{lines_of};
 ghost use Rattle.reading.specs.Reading.{Gives, IsFirstFault};
 ghost use Rattle.reading.specs.Words.{number_of};
 ghost use Rattle.expressions.specs.Reading.{expr_of};
-ghost use Rattle.rule_language.specs.Books.{is_memory, is_of_file, place_of, rule_line, known, pair, above_line, same_line, weight_from, or_syntax, part_of, add_part, part_line, pair_line, book_words, book_line, no_lines, book_of, IsBook, AnyBook};
+ghost use Rattle.rule_language.specs.Books.{is_memory, is_of_file, place_of, rule_line, named_rule, pair, above_line, same_line, weight_from, or_syntax, part_of, add_part, part_line, pair_line, book_words, book_line, no_lines, book_of, IsBook, AnyBook};
 ghost use Rattle.rule_language.specs.declared.book.BookFault.TheVariants as faults;
 
-use crate::limits::{MAX_PARTS, MAX_RULES, MAX_WEIGHT};
+use crate::limits::{MAX_PARTS, MAX_WEIGHT};
 use crate::line_file::{LineReader, read_all};
 use crate::named::Named;
 use crate::part::{Part, line_fits, without_zeros};
 use expressions::{Expr, ExprFault, read_spelled};
-use preorder::{List, Name, NoMemory, Preorder, PreorderFault};
+use preorder::{List, MAX_RULES, Name, NoMemory, Preorder, PreorderFault};
 use reading::number_in;
 use std::alloc::Global;
 
 /// A rule of a book. One without parts is bare.
 #[derive(Drop)]
 pub struct Rule {
+    /// No other rule of its book has it.
     pub name: Name,
+    /// At most `MAX_PARTS`, whose values are added up.
     pub parts: List<Part>,
 }
 
-/// A rulebook: its rules, and the statements on them. A statement `(a, b)` says that the rule at place `a` is at
-/// least the rule at place `b`, counted from 0.
+/// A rulebook: its rules, and the statements on them. A statement `(a, b)` says that the rule at
+/// place `a` is at least the rule at place `b`, counted from 0.
 #[derive(Drop)]
 pub struct Book {
+    /// 1 to `MAX_RULES`, in the order of their lines.
     pub rules: List<Rule>,
+    /// In the order of their lines; each is on places of rules.
     pub statements: List<(usize, usize)>,
 }
 
-/// Why bytes are no book. A number is that of the first faulty line, counted from 1. Of the faults of a line, the one
-/// that stands first here is named.
+/// Why bytes are no book. A number is that of the first faulty line, counted from 1. Of the faults
+/// of a line, the one that stands first here is named.
 #[derive(Clone, Copy, Debug, PartialEq, Eq)]
 pub enum BookFault {
     /// The bytes are not UTF-8.
     NotUtf8,
-    /// The line has not the form of one of a book, or more than `MAX_LINE` bytes, or its part does not fit its written
-    /// line (`written_fits`).
+    /// The line has not the form of one of a book, or more than `MAX_LINE` bytes, or its part does
+    /// not fit its written line (`written_fits`).
     Syntax(usize),
     /// A name is that of no rule of an earlier line.
     UnknownName(usize),
@@ -76,10 +80,10 @@ fn place_of(rules: &[Rule], name: &[u8]) -> Option<usize>
 }
 
 // The place of a rule of an earlier line.
-#[tactic(auto, unfolding(crate::specs::Books::known))]
-fn known(number: usize, rules: &[Rule], name: &[u8]) -> Result<usize, BookFault>
+#[tactic(auto, unfolding(crate::specs::Books::named_rule))]
+fn named_rule(number: usize, rules: &[Rule], name: &[u8]) -> Result<usize, BookFault>
     ensures inside { IfOk result (λ i. i < length rules.now) }
-    ensures exact { Gives is_memory (λ i. i) result (known number name.now rules.now) }
+    ensures exact { Gives is_memory (λ i. i) result (named_rule number name.now rules.now) }
 {
     match place_of(rules, name) {
         Some(place) => Ok(place),
@@ -95,8 +99,8 @@ fn pair_of(number: usize, rules: &[Rule], a: &[u8], b: &[u8]) -> Result<(usize, 
     if Name::new(a).is_none() || Name::new(b).is_none() {
         return Err(BookFault::Syntax(number));
     }
-    let upper = known(number, rules, a)?;
-    let lower = known(number, rules, b)?;
+    let upper = named_rule(number, rules, a)?;
+    let lower = named_rule(number, rules, b)?;
     Ok((upper, lower))
 }
 
@@ -110,7 +114,8 @@ fn weight_of(number: usize, weight: &[u8]) -> Result<u64, BookFault>
 }
 
 fn expr_of(alloc: Global, number: usize, words: &[&[u8]]) -> Result<Expr, BookFault>
-    ensures { Gives is_memory (λ e. e) result (or_syntax number (expr_of (map (λ w. w.now) words.now))) }
+    ensures { Gives is_memory (λ e. e) result (or_syntax number
+        (expr_of (map (λ w. w.now) words.now))) }
 {
     match read_spelled(alloc, words) {
         Ok(expr) => Ok(expr),
@@ -119,8 +124,9 @@ fn expr_of(alloc: Global, number: usize, words: &[&[u8]]) -> Result<Expr, BookFa
     }
 }
 
-/// The part of a line, by its words after the kind. `number` is that of the line. `Syntax` where the name or the weight has not its
-/// form, the words of the expression spell none, or the part does not fit its written line.
+/// The part of a line, by its words after the kind. `number` is that of the line. `Syntax` where
+/// the name or the weight has not its form, the words of the expression spell none, or the part
+/// does not fit its written line.
 #[tactic(auto, unfolding(crate::specs::Books::part_of))]
 pub fn part_of(
     alloc: Global,
@@ -130,7 +136,8 @@ pub fn part_of(
     weight: &[u8],
     expr: &[&[u8]],
 ) -> Result<Part, BookFault>
-    ensures { Gives is_memory (λ p. p) result (part_of number at_end name.now weight.now (map (λ w. w.now) expr.now)) }
+    ensures { Gives is_memory (λ p. p) result (part_of number at_end name.now weight.now
+        (map (λ w. w.now) expr.now)) }
 {
     let Some(rule) = Name::new(name) else {
         return Err(BookFault::Syntax(number));
@@ -210,11 +217,12 @@ impl Book {
             (part_line number at_end name.now weight.now (map (λ w. w.now) expr.now) self.old) }
     {
         let part = part_of(alloc, number, at_end, name, weight, expr)?;
-        let place = known(number, self.rules.as_slice(), name)?;
+        let place = named_rule(number, self.rules.as_slice(), name)?;
         self.add_part(number, place, part)
     }
 
-    /// Adds the statements of a line of this kind, `above` or `same`, on the rules of two names. `number` is that of the line.
+    /// Adds the statements of a line of this kind, `above` or `same`, on the rules of two names.
+    /// `number` is that of the line.
     #[tactic(auto, unfolding(crate::specs::Books::pair_line))]
     pub fn add_pair(
         &mut self,
@@ -223,7 +231,8 @@ impl Book {
         a: &[u8],
         b: &[u8],
     ) -> Result<(), BookFault>
-        ensures { Gives is_memory (λ _. self.new) result (pair_line number kind.now a.now b.now self.old) }
+        ensures { Gives is_memory (λ _. self.new) result
+            (pair_line number kind.now a.now b.now self.old) }
     {
         if kind == b"above".as_slice() {
             self.add_above(number, a, b)

@@ -1,6 +1,3 @@
-/// The most rules that a book may have.
-pub const MAX_RULES: usize = 32;
-
 /// The most parts that a rule may have, those that count once at the end among them.
 pub const MAX_PARTS: usize = 8;
 

@@ -7,11 +7,13 @@ ghost use Rattle.rule_language.specs.Parts.{without_zeros, part_fits, kind_of};
 use expressions::{Expr, MAX_BRACKETS, MAX_LINE, decimal_len, nesting, written_len};
 use preorder::Name;
 
-/// A weighted part of a rule. What it measures counts at each step, or where it is final once at the end.
+/// A weighted part of a rule. What it measures counts at each step, or where it is final once at
+/// the end.
 #[derive(Drop)]
 pub struct Part {
     /// From 1 to `MAX_WEIGHT` in a well-formed book.
     pub weight: u64,
+    /// What its value is, where it is above 0.
     pub expr: Expr,
     /// Whether it counts once at the end.
     pub at_end: bool,
@@ -43,15 +45,16 @@ fn kind_len(at_end: bool) -> usize
 // Whether the line of a part fits, by the length of its weight in decimal.
 #[tactic(auto, unfolding(crate::specs::Parts::part_fits))]
 pub fn line_fits(at_end: bool, name: &Name, weight_len: usize, expr: &Expr) -> bool
-    ensures { (weight : List ℕ) → length weight ≡ weight_len → result ≡ part_fits at_end name.now weight expr.now }
+    ensures { (weight : List ℕ) → length weight ≡ weight_len
+        → result ≡ part_fits at_end name.now weight expr.now }
 {
     weight_len <= MAX_LINE
         && kind_len(at_end) + name.as_slice().len() + weight_len + written_len(expr) + 3 <= MAX_LINE
         && nesting(expr) <= MAX_BRACKETS
 }
 
-/// Whether the written line of this part of a rule of that name has at most `MAX_LINE` bytes and at most `MAX_BRACKETS`
-/// brackets inside each other.
+/// Whether the written line of this part of a rule of that name has at most `MAX_LINE` bytes and at
+/// most `MAX_BRACKETS` brackets inside each other.
 pub fn written_fits(name: &Name, part: &Part) -> bool
     ensures { result ≡ part_fits part.now.at_end name.now (decimal part.now.weight) part.now.expr }
 {

@@ -64,8 +64,8 @@ fn joined(
     Ok(text)
 }
 
-// A book whose one rule has one part, of which the expression is written in 1,012 bytes: 35 names of 24 bytes, 33 times
-// a sign with its blanks and brackets, and a call of two.
+// A book whose one rule has one part, of which the expression is written in 1,012 bytes: 35 names
+// of 24 bytes, 33 times a sign with its blanks and brackets, and a call of two.
 fn with_long_part(alloc: Global, head: &[u8]) -> Result<Vec<u8>, Fail> {
     let first = joined(alloc, head, LONG_NAME, b"*", 20)?;
     let mut text = joined(alloc, first.as_slice(), b",", b"", 1)?;

@@ -93,7 +93,8 @@ fn push_statements(
     statements: &[(usize, usize)],
 ) -> Result<(), AllocError>
     requires { All (InRange (length rules.now)) statements.now }
-    ensures { OnOk result (out.new.items ≡ out.old.items ++ flat_map (statement_text rules.now) statements.now) }
+    ensures { OnOk result (out.new.items ≡ out.old.items
+        ++ flat_map (statement_text rules.now) statements.now) }
 {
     for statement in statements {
         push_statement(out, rules, *statement)?;
@@ -101,8 +102,8 @@ fn push_statements(
     Ok(())
 }
 
-/// The text that a book is written as: for each rule its line and those of its parts, and then a line for each
-/// statement.
+/// The text that a book is written as: for each rule its line and those of its parts, and then a
+/// line for each statement.
 pub fn write_book(alloc: Global, book: &Book) -> Result<Vec<u8>, NoMemory>
     requires { IsBook book.now }
     ensures text { IfOk result (λ v. v.items ≡ book_text book.now) }
@@ -118,8 +119,10 @@ pub fn write_book(alloc: Global, book: &Book) -> Result<Vec<u8>, NoMemory>
 
 /// The line that a part is written as does to a book what the part does.
 pub fn written_part_is_read()
-    ensures { (n : ℕ) (name : List ℕ) (part : Part) (book : Book) → IsTrue (is_name name) → IsPart name part
-        → book_words n (words (part_text part.at_end name (decimal part.weight) part.expr)) book ≡ add_named n name part book }
+    ensures { (n : ℕ) (name : List ℕ) (part : Part) (book : Book) → IsTrue (is_name name)
+        → IsPart name part
+        → book_words n (words (part_text part.at_end name (decimal part.weight) part.expr)) book
+        ≡ add_named n name part book }
 {}
 
 /// The text that a well-formed book is written as is read as that book.

@@ -17,13 +17,14 @@ use Rattle.rulebook_order.specs.Verdict.{IsVerdict}
 use Rattle.rulebook_order.specs.declared.verdict.Verdict.{Verdict}
 use Rattle.rulebook_order.specs.declared.verdict.Verdict.TheVariants.{Equal, First, Second, Neither}
 use Rattle.rulebook_order.proofs.Agree.{Beats-agree, IsVerdictBy-statements, NoWorseBy-statements}
-use Rattle.trajectory_judge.specs.Judgements.{HasVerdict, HaveLayers, later_pairs, place_pairs, places}
+use Rattle.trajectory_judge.specs.Judgements.{HasVerdict, HaveLayers, place_pairs, places}
+use Rattle.rulebook_order.specs.Pairs.{later_pairs}
 use Rattle.trajectory_judge.specs.Layers.{BeatsAt, EndsChain, IsLayerOf, alone, after}
 use Rattle.trajectory_judge.specs.Peeling.{layers_of, names_of, vectors_of}
 use Rattle.trajectory_judge.specs.Records.{name_of}
 use Rattle.trajectory_judge.specs.declared.judged.Judged.{Judged}
 use Rattle.trajectory_judge.specs.declared.records.Records.{Records}
-use Rattle.rulebook_cli.specs.Compare.{AreLines, AreNamed, IsPairLine, pairs}
+use Rattle.rulebook_cli.specs.Compare.{AreLines, AreNamed, IsPairLine}
 use Rattle.rulebook_cli.specs.Judge.{nobody, row_at, row_of, told_pair}
 use Rattle.rulebook_cli.specs.Judgeable.{IsPlaced}
 
@@ -46,7 +47,7 @@ module _ {X Y : Type 0} (f : X → Y) where
   paired x (y ∷ ys) = ap (λ (l : List (Y × Y)). (f x, f y) ∷ l) (paired x ys)
 
   -- pairs of what is made of items are what is made of pairs
-  later_map : (xs : List X) → map both (later_pairs xs) ≡ pairs (map f xs)
+  later_map : (xs : List X) → map both (later_pairs xs) ≡ later_pairs (map f xs)
   later_map [] = refl
   later_map (x ∷ xs) =
       map-append both (map (λ y. (x, y)) xs) (later_pairs xs)
@@ -136,10 +137,10 @@ module _ (statements : List (ℕ × ℕ)) (rules : List Rule) (runs : List Judge
       (told_pair rules runs p, flat_map (told_pair rules runs) told, line_is p (All-head (HasVerdict (IsVerdictBy order) (vectors_of runs)) p told each), lines_are told (All-tail (HasVerdict (IsVerdictBy order) (vectors_of runs)) p told each), refl)
 
   -- the lines of each recording against each later one
-  pub told_lines : (told : List (ℕ × ℕ × Verdict)) → map places told ≡ place_pairs (length runs) → All (HasVerdict (IsVerdictBy order) (vectors_of runs)) told → AreLines PairLine (pairs (map row_of runs)) (flat_map (told_pair rules runs) told)
+  pub told_lines : (told : List (ℕ × ℕ × Verdict)) → map places told ≡ place_pairs (length runs) → All (HasVerdict (IsVerdictBy order) (vectors_of runs)) told → AreLines PairLine (later_pairs (map row_of runs)) (flat_map (told_pair rules runs) told)
   told_lines told are each =
       subst (λ (l : List (Row × Row)). AreLines PairLine l (flat_map (told_pair rules runs) told))
-      (ap (map rows_at) are ∙ later_map (row_at runs) (range_with_len 0 (length runs)) ∙ ap pairs (rows_are runs)) (lines_are told each)
+      (ap (map rows_at) are ∙ later_map (row_at runs) (range_with_len 0 (length runs)) ∙ ap later_pairs (rows_are runs)) (lines_are told each)
 
 -- ---- layers
 

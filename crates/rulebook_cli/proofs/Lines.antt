@@ -7,7 +7,8 @@ use Rattle.std.proofs.lemmas.List.{append-nil, take_all}
 use Rattle.rule_language.specs.declared.book.Book.{Book}
 use Rattle.rulebook_order.specs.NoWorseUnder.{IsAbove, IsVerdictUnder}
 use Rattle.rulebook_order.proofs.Unique.{IsVerdict-unique}
-use Rattle.rulebook_cli.specs.Compare.{AreLines, AddsLines, IsPairLine, pair_line, pairs}
+use Rattle.rulebook_cli.specs.Compare.{AreLines, AddsLines, IsPairLine, pair_line}
+use Rattle.rulebook_order.specs.Pairs.{later_pairs}
 
 module _ {X : Type 0} (IsLine : X → List ℕ → Type 0) where
   pub lines_join : (xs ys : List X) (s t : List ℕ) → AreLines IsLine xs s → AreLines IsLine ys t → AreLines IsLine (xs ++ ys) (s ++ t)
@@ -44,25 +45,22 @@ lines_unique P one (x ∷ xs) s t h k =
 pub record IsComparedTo (IsLine : Row × Row → List ℕ → Type 0) (width : ℕ) (rows rest : List Row) (text : List ℕ) : Type 0 where
   pub before : List (Row × Row)
   pub lines : AddsLines IsLine before [] text
-  pub whole : before ++ pairs rest ≡ pairs rows
+  pub whole : before ++ later_pairs rest ≡ later_pairs rows
   pub wide : All (λ (row : Row). length row.values ≡ width) rest
-
-pub compared_none : (IsLine : Row × Row → List ℕ → Type 0) (width : ℕ) (rows : List Row) → All (λ (row : Row). length row.values ≡ width) rows → IsComparedTo IsLine width rows rows []
-compared_none IsLine width rows wide = record { before = []; lines = adds_none IsLine []; whole = refl; wide = wide }
 
 pub compared_more : (IsLine : Row × Row → List ℕ → Type 0) (width : ℕ) (rows rest : List Row) (first : Row) (others : List Row) (old new : List ℕ) → IsComparedTo IsLine width rows rest old → rest ≡ first ∷ others
     → AddsLines IsLine (map (λ (other : Row). (first, other)) others) old new → IsComparedTo IsLine width rows others new
 compared_more IsLine width rows rest first others old new so_far is added = record {
   before = so_far.before ++ map (λ (other : Row). (first, other)) others;
   lines = adds_more IsLine so_far.before (map (λ (other : Row). (first, other)) others) [] old new so_far.lines added;
-  whole = append_assoc so_far.before (map (λ (other : Row). (first, other)) others) (pairs others) ∙ subst (λ (r : List Row). so_far.before ++ pairs r ≡ pairs rows) is so_far.whole;
+  whole = append_assoc so_far.before (map (λ (other : Row). (first, other)) others) (later_pairs others) ∙ subst (λ (r : List Row). so_far.before ++ later_pairs r ≡ later_pairs rows) is so_far.whole;
   wide = All-tail (λ (row : Row). length row.values ≡ width) first others (subst (λ (r : List Row). All (λ (row : Row). length row.values ≡ width) r) is so_far.wide);
 }
 
-pub compared_all : (IsLine : Row × Row → List ℕ → Type 0) (width : ℕ) (rows rest : List Row) (text : List ℕ) → IsComparedTo IsLine width rows rest text → rest ≡ [] → AreLines IsLine (pairs rows) text
+pub compared_all : (IsLine : Row × Row → List ℕ → Type 0) (width : ℕ) (rows rest : List Row) (text : List ℕ) → IsComparedTo IsLine width rows rest text → rest ≡ [] → AreLines IsLine (later_pairs rows) text
 compared_all IsLine width rows rest text so_far is =
-    let whole : so_far.before ≡ pairs rows = sym (append-nil so_far.before) ∙ subst (λ (r : List Row). so_far.before ++ pairs r ≡ pairs rows) is so_far.whole in
-    subst (λ (t : List ℕ). AreLines IsLine (pairs rows) t) (sym so_far.lines.appended) (subst (λ (ps : List (Row × Row)). AreLines IsLine ps so_far.lines.added) whole so_far.lines.lines)
+    let whole : so_far.before ≡ later_pairs rows = sym (append-nil so_far.before) ∙ subst (λ (r : List Row). so_far.before ++ later_pairs r ≡ later_pairs rows) is so_far.whole in
+    subst (λ (t : List ℕ). AreLines IsLine (later_pairs rows) t) (sym so_far.lines.appended) (subst (λ (ps : List (Row × Row)). AreLines IsLine ps so_far.lines.added) whole so_far.lines.lines)
 
 pub nothing_left : {X : Type 0} (xs : List X) → length xs < 1 → xs ≡ []
 nothing_left [] h = refl

@@ -13,7 +13,8 @@ use Rattle.command_outcome.proofs.DueOutcomes.{alike, end_alike, keeps, same_out
 use Rattle.rulebook_cli.specs.Words.{Request, pick, compare, show, walk, accept, derive, judge, plan, check, sample, help, reading}
 use Rattle.rulebook_cli.specs.Asked.{task_by, task_of}
 use Rattle.rulebook_cli.specs.Pick.{PickMakes, IsPickText, kept_lines}
-use Rattle.rulebook_cli.specs.Compare.{CompareMakes, IsCompareText, IsPairLine, pairs}
+use Rattle.rulebook_cli.specs.Compare.{CompareMakes, IsCompareText, IsPairLine}
+use Rattle.rulebook_order.specs.Pairs.{later_pairs}
 use Rattle.maneuver_lattice.specs.SceneGraphs.{IsLatticeTrajectory}
 use Rattle.rulebook_cli.specs.SceneInputs.{scene}
 use Rattle.rulebook_cli.specs.Walk.{WalkMakes, IsWalkText, vector_of, walk_lines}
@@ -39,7 +40,7 @@ one_pick : (files : Files) (x : Book × Table) (o p : Outcome) → PickMakes fil
 one_pick files x o p h k = same_outcome o p (h.done ∙ sym k.done) (one_pick_text x.0 x.1.rows o.text p.text h.says k.says) (h.stays ∙ sym k.stays)
 
 one_compare_text : (book : Book) (rows : List Row) (s t : List ℕ) → IsCompareText book rows s → IsCompareText book rows t → s ≡ t
-one_compare_text book rows = lines_unique (IsPairLine (IsVerdictUnder book.statements (length book.rules)) book.rules) (one_pair_line book) (pairs rows)
+one_compare_text book rows = lines_unique (IsPairLine (IsVerdictUnder book.statements (length book.rules)) book.rules) (one_pair_line book) (later_pairs rows)
 
 one_compare : (files : Files) (x : Book × Table) (o p : Outcome) → CompareMakes files x o → CompareMakes files x p → o ≡ p
 one_compare files x o p h k = same_outcome o p (h.done ∙ sym k.done) (one_compare_text x.0 x.1.rows o.text p.text h.says k.says) (h.stays ∙ sym k.stays)

@@ -16,7 +16,8 @@ use Rattle.command_outcome.proofs.DueOutcomes.{same_outcome}
 use Rattle.command_outcome.proofs.HavingInputs.{SoFar, has_tested, none_more, one_more, test_stops}
 use Rattle.command_outcome.proofs.Serving.{made, stops}
 use Rattle.rulebook_cli.specs.Answers.{NoWorseFor}
-use Rattle.rulebook_cli.specs.Compare.{AreLines, IsPairLine, pairs}
+use Rattle.rulebook_cli.specs.Compare.{AreLines, IsPairLine}
+use Rattle.rulebook_order.specs.Pairs.{later_pairs}
 use Rattle.rulebook_cli.specs.Judge.{IsJudgeText, JudgeMakes, Judges, judge_inputs, judge_task, judged_line, row_of, with_binding}
 use Rattle.rulebook_cli.specs.SceneInputs.{binding_told}
 use Rattle.rulebook_cli.specs.Walk.{rules_line}
@@ -38,11 +39,11 @@ module _ (scenario book lattice name : List ℕ) (old mid : Shelf) (files : Scen
 
 module _ (files : SceneFiles) where
   abbrev Told : List Judged → List ℕ → Type 0
-  Told runs told = AreLines (IsPairLine (IsVerdictUnder files.book.statements (length files.book.rules)) files.book.rules) (pairs (map row_of runs)) told
+  Told runs told = AreLines (IsPairLine (IsVerdictUnder files.book.statements (length files.book.rules)) files.book.rules) (later_pairs (map row_of runs)) told
 
   told_once : (xs ys : List Judged) → xs ≡ ys → (a b : List ℕ) → Told xs a → Told ys b → a ≡ b
   told_once xs ys same a b f g =
-      lines_unique (IsPairLine (IsVerdictUnder files.book.statements (length files.book.rules)) files.book.rules) (one_pair_line files.book) (pairs (map row_of ys)) a b (subst (λ (l : List Judged). Told l a) same f) g
+      lines_unique (IsPairLine (IsVerdictUnder files.book.statements (length files.book.rules)) files.book.rules) (one_pair_line files.book) (later_pairs (map row_of ys)) a b (subst (λ (l : List Judged). Told l a) same f) g
 
   one_judge_text : (records : Records) (s t : List ℕ) → IsJudgeText files records s → IsJudgeText files records t → s ≡ t
   one_judge_text records s t h k =

@@ -28,7 +28,7 @@ use Rattle.certificate_checker.specs.declared.checked.Attained.{Attained}
 use Rattle.certificate_checker.specs.Failing.{Fails, RejectedBy}
 use Rattle.certificate_checker.specs.declared.checked.Rejection.{Rejection}
 use Rattle.certificate_checker.proofs.AgreeGood.{IsGood-agree, IsGood-words, RejectedBy-agree}
-use Rattle.certificate_checker.proofs.OneFinding.{LeadsToLabel-once}
+use Rattle.certificate_checker.proofs.OneFinding.{LeadsToLabel-once, with_parts}
 use Rattle.certificate_checker.proofs.Sound.{covers}
 use Rattle.maneuver_lattice.specs.Lattice.{IsLattice}
 use Rattle.maneuver_lattice.specs.SceneGraphs.{AttainsItsVector, IsDriven, scene_graph}
@@ -41,9 +41,6 @@ use Rattle.rulebook_cli.specs.Driven.{HasList}
 use Rattle.rulebook_cli.specs.SceneInputs.{bound, features, scene}
 use Rattle.rulebook_cli.specs.declared.scene_files.SceneFiles.{SceneFiles}
 use Rattle.rulebook_cli.proofs.Ascending.{sorted_ascends}
-
-abbrev with_parts : List ℕ → List ℕ → Attained
-with_parts v list = record { vector = v; choices = list }
 
 same_some : {X : Type 0} (x y : X) → Some x ≡ Some y → x ≡ y
 same_some x y e = cc

@@ -31,10 +31,6 @@ module _ (scene : Scene) (state : LatticeState) (list : List ℕ) (place choice 
       ∙ sym (ap (λ (l : List ℕ). written ++ maneuver_words scene state l) rest_is)
       ∙ so_far
 
-pub words_end : (scene : Scene) (state : LatticeState) (list : List ℕ) (place : ℕ) (written whole : List ℕ) → length list ≤ place → written ++ maneuver_words scene state (drop place list) ≡ whole → written ≡ whole
-words_end scene state list place written whole far so_far =
-    sym (append-nil written) ∙ sym (ap (λ (l : List ℕ). written ++ maneuver_words scene state l) (drop_of_length-le list far)) ∙ so_far
-
 -- what holds of each answer holds of each reference to one
 pub each_now : (P : Attained → Type 0) (xs : List (Bor Attained)) → All P (map (λ (x : Bor Attained). x.now) xs) → All (λ (x : Bor Attained). P x.now) xs
 each_now P xs h k d inside =

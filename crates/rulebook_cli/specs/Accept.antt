@@ -45,7 +45,8 @@ pub record IsTaken (parent child : Book) (printed : List ℕ) : Type 0 where
   pub keeps : KeepsAs parent child kind_is
   pub says : printed ≡ kind_text kind_is
 
--- the child has this fault by the test of its kind, and its two vectors show a preference that is lost
+-- the child has this fault by the test of its kind, and its two vectors show a preference that is
+-- lost
 pub record IsNoStep (parent child : Book) (said : List ℕ) : Type 0 where
   pub kind_is : Accepted
   pub of_kind : IsOfKind parent child kind_is
@@ -62,19 +63,32 @@ pub record IsAcceptance (before : Files) (parent child : Book) (outcome : Outcom
 pub record IsRefusal (before : Files) (parent child : Book) (outcome : Outcome) : Type 0 where
   pub said : List ℕ
   pub no_step : IsNoStep parent child said
-  pub is : outcome ≡ record { status = status.Refused; text = refused_text role.Child said; files = before }
+  pub is : outcome ≡ record {
+    status = status.Refused;
+    text = refused_text role.Child said;
+    files = before;
+  }
 
 abbrev pub AcceptMakes : Files → Book × Book → Outcome → Type 0
-AcceptMakes before input outcome = IsAcceptance before input.0 input.1 outcome ⊎ IsRefusal before input.0 input.1 outcome
+AcceptMakes before input outcome =
+    IsAcceptance before input.0 input.1 outcome ⊎ IsRefusal before input.0 input.1 outcome
 
 abbrev pub accept_task : List ℕ → List ℕ → Task
-accept_task parent child = record { Input = Book × Book; inputs = accept_inputs parent child; Makes = AcceptMakes; saves = None }
+accept_task parent child =
+    record {
+      Input = Book × Book;
+      inputs = accept_inputs parent child;
+      Makes = AcceptMakes;
+      saves = None;
+    }
 
 -- ---- before anything is written
 
 abbrev pub AcceptStops : Book → Book → Stop → Type 0
 AcceptStops parent child stop.NoMemory = ⊤
-AcceptStops parent child (stop.Ended e text) = (said : List ℕ) × IsNoStep parent child said × EndsAs ending.Refused (refused_text role.Child said) (stop.Ended e text)
+AcceptStops parent child (stop.Ended e text) =
+    (said : List ℕ) × IsNoStep parent child said × EndsAs ending.Refused
+    (refused_text role.Child said) (stop.Ended e text)
 AcceptStops parent child (stop.Unread r) = ⊥
 AcceptStops parent child stop.Unsaved = ⊥
 

@@ -1,7 +1,8 @@
 -- What words ask for, as a task. This project's own.
 use Rattle.std.specs.Prelude.{ℕ, List, Option, None, Some}
 use Rattle.command_outcome.specs.Tasks.{Task, usage}
-use Rattle.rulebook_cli.specs.Words.{Request, pick, compare, show, walk, accept, derive, judge, plan, check, sample, help, reading}
+use Rattle.rulebook_cli.specs.Words.{Request, pick, compare, show, walk, accept, derive, judge}
+use Rattle.rulebook_cli.specs.Words.{plan, check, sample, help, reading}
 use Rattle.rulebook_cli.specs.Pick.{pick_task}
 use Rattle.rulebook_cli.specs.Compare.{compare_task}
 use Rattle.rulebook_cli.specs.Show.{show_task}

@@ -1,4 +1,5 @@
--- What the program makes of a scenario, a book and a lattice: well-formed files, and the book bound to the scene. This project's own.
+-- What the program makes of a scenario, a book and a lattice: well-formed files, and the book bound
+-- to the scene. This project's own.
 use Rattle.std.specs.Prelude.{◌≡◌, ◌<◌, List, length, IsSome, ⊤}
 use Rattle.scenario_model.specs.Scenario.{IsScenario}
 use Rattle.lanelet_network.specs.Lanes.{lanes_of}
@@ -35,7 +36,8 @@ pub record IsBoundScene (scene : BoundScene) : Type 0 where
   pub names : scene.names ≡ maneuver_names scene.files.lattice
   pub book : scene.bound ≡ bound scene.files
   pub bound_to : IsBoundTo (features scene.files) (bound scene.files)
-  pub starts : IsSome (start_class scene.files.lattice (first_problem scene.files.scenario).start.speed)
+  pub starts : IsSome (start_class scene.files.lattice
+      (first_problem scene.files.scenario).start.speed)
 
 -- the rule that a fault of binding names is one of these
 abbrev pub NamesARule : List Rule → BindFault → Type 0
@@ -50,7 +52,8 @@ abbrev pub graph_at : Scene → SceneSource → Bound → Graph LatticeState
 graph_at scene source bound = scene_graph scene (features_of (source_scene source)) bound
 
 -- the parts of a graph are those of the files
-pub record IsGraphOf (files : SceneFiles) (graph_scene : Scene) (source : SceneSource) (graph_bound : Bound) : Type 0 where
+pub record IsGraphOf (files : SceneFiles) (graph_scene : Scene) (source : SceneSource)
+    (graph_bound : Bound) : Type 0 where
   pub scene_is : graph_scene ≡ scene files
   pub features_are : features_of (source_scene source) ≡ features files
   pub bound_is : graph_bound ≡ bound files

@@ -1,4 +1,5 @@
--- `check SCENARIO BOOK LATTICE CERT`: what a certificate shows, whoever made it, or the first condition that it fails.
+-- `check SCENARIO BOOK LATTICE CERT`: what a certificate shows, whoever made it, or the first
+-- condition that it fails.
 use Rattle.std.specs.Prelude.{◌≡◌, ◌⊎◌, ℕ, List, ◌++◌, None, Result, Ok, Err, Vec, ⊤, codes}
 use Rattle.std.specs.declared.alloc.Global.{Global}
 use Rattle.std.specs.Fmt.{decimal}
@@ -44,32 +45,48 @@ accepted_text files answers = codes "accepted\n" ++ answer_text files answers
 
 -- `rejected CONDITION LABEL`
 abbrev pub rejected_text : ℕ → ℕ → List ℕ
-rejected_text number label = codes "rejected " ++ (decimal number ++ (codes " " ++ (decimal label ++ codes "\n")))
+rejected_text number label =
+    codes "rejected " ++ (decimal number ++ (codes " " ++ (decimal label ++ codes "\n")))
 
 -- the certificate is accepted, and what is printed is the answer
-pub record IsAccepted (before : Files) (files : SceneFiles) (certificate : Certificate) (outcome : Outcome) : Type 0 where
+pub record IsAccepted (before : Files) (files : SceneFiles) (certificate : Certificate)
+    (outcome : Outcome) : Type 0 where
   pub answers : List Attained
   pub shows : Shows files certificate answers
-  pub is : outcome ≡ record { status = status.Done; text = accepted_text files answers; files = before }
+  pub is : outcome ≡ record {
+    status = status.Done;
+    text = accepted_text files answers;
+    files = before;
+  }
 
 -- a condition fails, and the first that does is named with its first label
-pub record IsRejected (before : Files) (files : SceneFiles) (certificate : Certificate) (outcome : Outcome) : Type 0 where
+pub record IsRejected (before : Files) (files : SceneFiles) (certificate : Certificate)
+    (outcome : Outcome) : Type 0 where
   pub number : ℕ
   pub label : ℕ
   pub fails : Fails (graph_of files) (NoWorseFor files) certificate number label
-  pub is : outcome ≡ record { status = status.Rejected; text = rejected_text number label; files = before }
+  pub is : outcome ≡ record {
+    status = status.Rejected;
+    text = rejected_text number label;
+    files = before;
+  }
 
 abbrev pub CheckMakes : Files → SceneFiles × Certificate → Outcome → Type 0
-CheckMakes before input outcome = IsAccepted before input.0 input.1 outcome ⊎ IsRejected before input.0 input.1 outcome
+CheckMakes before input outcome =
+    IsAccepted before input.0 input.1 outcome ⊎ IsRejected before input.0 input.1 outcome
 
--- what a check makes of a scene and a certificate, before anything is written: a text, a rejection, or want of memory
+-- what a check makes of a scene and a certificate, before anything is written: a text, a rejection,
+-- or want of memory
 abbrev pub Rejects : Rejection → Stop → Type 0
-Rejects (rejection.Condition number label) end = EndsAs ending.Rejected (rejected_text number label) end
+Rejects (rejection.Condition number label) end =
+    EndsAs ending.Rejected (rejected_text number label) end
 Rejects rejection.NoMemory end = end ≡ stop.NoMemory
 
 abbrev pub CheckStops : SceneFiles → Certificate → Stop → Type 0
 CheckStops files certificate stop.NoMemory = ⊤
-CheckStops files certificate (stop.Ended e text) = (number : ℕ) × (label : ℕ) × Fails (graph_of files) (NoWorseFor files) certificate number label × EndsAs ending.Rejected (rejected_text number label) (stop.Ended e text)
+CheckStops files certificate (stop.Ended e text) =
+    (number : ℕ) × (label : ℕ) × Fails (graph_of files) (NoWorseFor files) certificate number label
+    × EndsAs ending.Rejected (rejected_text number label) (stop.Ended e text)
 CheckStops files certificate (stop.Unread role) = ⊥
 CheckStops files certificate stop.Unsaved = ⊥
 
@@ -79,4 +96,9 @@ Checks files certificate (Err end) = CheckStops files certificate end
 
 abbrev pub check_task : List ℕ → List ℕ → List ℕ → List ℕ → Task
 check_task scenario book lattice certificate =
-    record { Input = SceneFiles × Certificate; inputs = check_inputs scenario book lattice certificate; Makes = CheckMakes; saves = None }
+    record {
+      Input = SceneFiles × Certificate;
+      inputs = check_inputs scenario book lattice certificate;
+      Makes = CheckMakes;
+      saves = None;
+    }

@@ -1,11 +1,14 @@
 -- `compare BOOK TABLE`: how each row stands to each later one.
-use Rattle.std.specs.Prelude.{◌≡◌, ℕ, ◌<◌, ⊤, List, [], ◌∷◌, ◌++◌, length, map, slice_index_or, None, codes}
+use Rattle.std.specs.Prelude.{◌≡◌, ℕ, ◌<◌, ⊤, List, [], ◌∷◌, ◌++◌, length, map, slice_index_or}
+use Rattle.std.specs.Prelude.{None, codes}
 use Rattle.outside_io.specs.Outside.{Files}
 use Rattle.preorder.specs.declared.row.Row.{Row}
+use Rattle.reading.specs.Bytes.{line_feed}
 use Rattle.text_lines.specs.Lines.{word}
 use Rattle.rule_language.specs.declared.book.Book.{Book}
 use Rattle.rule_language.specs.declared.book.Rule.{Rule}
 use Rattle.rule_language.specs.declared.table.Table.{Table}
+use Rattle.rulebook_order.specs.Pairs.{later_pairs}
 use Rattle.rulebook_order.specs.NoWorseUnder.{IsVerdictUnder}
 use Rattle.rulebook_order.specs.declared.verdict.Verdict.{Verdict}
 use Rattle.rulebook_order.specs.declared.verdict.Verdict.TheVariants.{Equal, First, Second, Neither}
@@ -14,18 +17,16 @@ use Rattle.command_outcome.specs.Outcome.{Outcome}
 use Rattle.command_outcome.specs.Tasks.{Task}
 use Rattle.rulebook_cli.specs.Inputs.{book_and_table}
 
--- each item with each later one, by the first and then by the second
-abbrev pub pairs : {X : Type 0} → List X → List (X × X)
-pairs [] = []
-pairs (x ∷ xs) = map (λ y. (x, y)) xs ++ pairs xs
-
 -- the text is the lines of the items, in their order
 abbrev pub AreLines : {X : Type 0} → (X → List ℕ → Type 0) → List X → List ℕ → Type 0
 AreLines IsLine [] text = text ≡ []
-AreLines IsLine (x ∷ xs) text = (line : List ℕ) × (rest : List ℕ) × IsLine x line × AreLines IsLine xs rest × (text ≡ line ++ rest)
+AreLines IsLine (x ∷ xs) text =
+    (line : List ℕ) × (rest : List ℕ) × IsLine x line × AreLines IsLine xs rest
+    × (text ≡ line ++ rest)
 
 -- lines of the items were added at the end
-pub record AddsLines {X : Type 0} (IsLine : X → List ℕ → Type 0) (items : List X) (old new : List ℕ) : Type 0 where
+pub record AddsLines {X : Type 0} (IsLine : X → List ℕ → Type 0) (items : List X)
+    (old new : List ℕ) : Type 0 where
   pub added : List ℕ
   pub lines : AreLines IsLine items added
   pub appended : new ≡ old ++ added
@@ -49,19 +50,26 @@ abbrev pub verdict_text : List Rule → Verdict → List ℕ
 verdict_text rules Equal = word (codes "equal")
 verdict_text rules (First r) = word (codes "first") ++ word (rule_name rules r)
 verdict_text rules (Second r) = word (codes "second") ++ word (rule_name rules r)
-verdict_text rules (Neither r q) = word (codes "neither") ++ (word (rule_name rules r) ++ word (rule_name rules q))
+verdict_text rules (Neither r q) =
+    word (codes "neither") ++ (word (rule_name rules r) ++ word (rule_name rules q))
 
 -- `NAME NAME VERDICT` and a line feed
 abbrev pub pair_line : List Rule → Row × Row → Verdict → List ℕ
-pair_line rules pair verdict = pair.0.name ++ (word pair.1.name ++ (verdict_text rules verdict ++ 10 ∷ []))
+pair_line rules pair verdict =
+    pair.0.name ++ (word pair.1.name ++ (verdict_text rules verdict ++ line_feed ∷ []))
 
 -- the line of a pair has the verdict on its vectors
-abbrev pub IsPairLine : (List ℕ → List ℕ → Verdict → Type 0) → List Rule → Row × Row → List ℕ → Type 0
-IsPairLine IsVerdictOn rules pair line = (verdict : Verdict) × IsVerdictOn pair.0.values pair.1.values verdict × (line ≡ pair_line rules pair verdict)
+abbrev pub IsPairLine : (List ℕ → List ℕ → Verdict → Type 0) → List Rule → Row × Row → List ℕ
+    → Type 0
+IsPairLine IsVerdictOn rules pair line =
+    (verdict : Verdict) × IsVerdictOn pair.0.values pair.1.values verdict
+    × (line ≡ pair_line rules pair verdict)
 
 -- the vectors of the rows are compared over pairs of rules, by the book's statements
 abbrev pub IsCompareText : Book → List Row → List ℕ → Type 0
-IsCompareText book rows text = AreLines (IsPairLine (IsVerdictUnder book.statements (length book.rules)) book.rules) (pairs rows) text
+IsCompareText book rows text =
+    AreLines (IsPairLine (IsVerdictUnder book.statements (length book.rules)) book.rules)
+    (later_pairs rows) text
 
 -- what is made of the inputs: the files stay
 pub record CompareMakes (files : Files) (inputs : Book × Table) (outcome : Outcome) : Type 0 where
@@ -70,4 +78,10 @@ pub record CompareMakes (files : Files) (inputs : Book × Table) (outcome : Outc
   pub says : IsCompareText inputs.0 inputs.1.rows outcome.text
 
 abbrev pub compare_task : List ℕ → List ℕ → Task
-compare_task book table = record { Input = Book × Table; inputs = book_and_table book table; Makes = CompareMakes; saves = None }
+compare_task book table =
+    record {
+      Input = Book × Table;
+      inputs = book_and_table book table;
+      Makes = CompareMakes;
+      saves = None;
+    }

@@ -39,7 +39,8 @@ derive_inputs parent_name script_name = do
 
 -- ---- what is due
 
--- the script derives a book, which keeps the parent's preferences; it is printed in its written form, which is read as the same book
+-- the script derives a book, which keeps the parent's preferences; it is printed in its written
+-- form, which is read as the same book
 pub record IsDerivation (parent : Book) (script printed : List ℕ) : Type 0 where
   pub book : Book
   pub derived : IsDerivedBy script parent book
@@ -53,27 +54,42 @@ pub record IsNoScript (parent : Book) (script said : List ℕ) : Type 0 where
   pub refused : IsScriptFault script parent fault
   pub told : derive_fault_text fault ≡ Some said
 
-pub record IsDerivedTo (before : Files) (parent : Book) (script : List ℕ) (outcome : Outcome) : Type 0 where
+pub record IsDerivedTo (before : Files) (parent : Book) (script : List ℕ)
+    (outcome : Outcome) : Type 0 where
   pub done : outcome.status ≡ status.Done
   pub stays : outcome.files ≡ before
   pub derives : IsDerivation parent script outcome.text
 
-pub record IsScriptRefused (before : Files) (parent : Book) (script : List ℕ) (outcome : Outcome) : Type 0 where
+pub record IsScriptRefused (before : Files) (parent : Book) (script : List ℕ)
+    (outcome : Outcome) : Type 0 where
   pub said : List ℕ
   pub no_script : IsNoScript parent script said
-  pub is : outcome ≡ record { status = status.Refused; text = refused_text role.Script said; files = before }
+  pub is : outcome ≡ record {
+    status = status.Refused;
+    text = refused_text role.Script said;
+    files = before;
+  }
 
 abbrev pub DeriveMakes : Files → Book × List ℕ → Outcome → Type 0
-DeriveMakes before input outcome = IsDerivedTo before input.0 input.1 outcome ⊎ IsScriptRefused before input.0 input.1 outcome
+DeriveMakes before input outcome =
+    IsDerivedTo before input.0 input.1 outcome ⊎ IsScriptRefused before input.0 input.1 outcome
 
 abbrev pub derive_task : List ℕ → List ℕ → Task
-derive_task parent script = record { Input = Book × List ℕ; inputs = derive_inputs parent script; Makes = DeriveMakes; saves = None }
+derive_task parent script =
+    record {
+      Input = Book × List ℕ;
+      inputs = derive_inputs parent script;
+      Makes = DeriveMakes;
+      saves = None;
+    }
 
 -- ---- before anything is written
 
 abbrev pub DeriveStops : Book → List ℕ → Stop → Type 0
 DeriveStops parent script stop.NoMemory = ⊤
-DeriveStops parent script (stop.Ended e text) = (said : List ℕ) × IsNoScript parent script said × EndsAs ending.Refused (refused_text role.Script said) (stop.Ended e text)
+DeriveStops parent script (stop.Ended e text) =
+    (said : List ℕ) × IsNoScript parent script said
+    × EndsAs ending.Refused (refused_text role.Script said) (stop.Ended e text)
 DeriveStops parent script (stop.Unread r) = ⊥
 DeriveStops parent script stop.Unsaved = ⊥
 

@@ -23,7 +23,8 @@ pair_words a b = a ++ word b
 abbrev pub lost_words : List ℕ → List ℕ → List ℕ → List ℕ → List ℕ
 lost_words a b x y = a ++ (word b ++ (word (with_commas x) ++ word (with_commas y)))
 
--- a fault's name in lower case with dashes between its words, and its fields; want of memory has none
+-- a fault's name in lower case with dashes between its words, and its fields; want of memory has
+-- none
 abbrev pub derive_fault_text : DeriveFault → Option (List ℕ)
 derive_fault_text (fault.Syntax n) = Some (fault_at (codes "syntax") n)
 derive_fault_text (fault.UnknownRule n) = Some (fault_at (codes "unknown-rule") n)
@@ -34,6 +35,8 @@ derive_fault_text (fault.TooManyParts n) = Some (fault_at (codes "too-many-parts
 derive_fault_text (fault.RulesDiffer a) = Some (fault_of (codes "rules-differ") a)
 derive_fault_text (fault.NotOneClass a b) = Some (fault_of (codes "not-one-class") (pair_words a b))
 derive_fault_text (fault.NotASum a) = Some (fault_of (codes "not-a-sum") a)
-derive_fault_text (fault.StrictLost a b x y) = Some (fault_of (codes "strict-lost") (lost_words a b x y))
-derive_fault_text (fault.NotLowest a b x y) = Some (fault_of (codes "not-lowest") (lost_words a b x y))
+derive_fault_text (fault.StrictLost a b x y) =
+    Some (fault_of (codes "strict-lost") (lost_words a b x y))
+derive_fault_text (fault.NotLowest a b x y) =
+    Some (fault_of (codes "not-lowest") (lost_words a b x y))
 derive_fault_text fault.NoMemory = None

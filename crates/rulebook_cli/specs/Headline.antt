@@ -1,4 +1,5 @@
--- What a `plan` and a `check` that are done print and leave: the answer over the scene of their files.
+-- What a `plan` and a `check` that are done print and leave: the answer over the scene of their
+-- files.
 use Rattle.std.specs.Prelude.{◌≡◌, ℕ, List, [], ◌++◌, Option, Some, Ok, IfSome, codes}
 use Rattle.std.specs.FinMap.{get}
 use Rattle.outside_io.specs.Outside.{Files}
@@ -14,25 +15,34 @@ use Rattle.rulebook_cli.specs.Words.{plan, check, reading}
 use Rattle.rulebook_cli.specs.declared.scene_files.SceneFiles.{SceneFiles}
 
 -- the answer over the scene was written, behind some words
-pub record IsAnswerWritten (words : List ℕ) (scene : SceneFiles) (Written : List ℕ → Type 0) : Type 0 where
+pub record IsAnswerWritten (words : List ℕ) (scene : SceneFiles)
+    (Written : List ℕ → Type 0) : Type 0 where
   pub answers : List Attained
   pub answers_are : AreAnswers scene answers
   pub written : Written (words ++ answer_text scene answers)
 
 -- the name holds the text of a certificate that shows the answer
-pub record HoldsGoodCertificate (name : List ℕ) (scene : SceneFiles) (after : Option Files) : Type 0 where
+pub record HoldsGoodCertificate (name : List ℕ) (scene : SceneFiles)
+    (after : Option Files) : Type 0 where
   pub certificate : Certificate
   pub good : IsGood (graph_of scene) (NoWorseFor scene) certificate
   pub holds : IfSome after (λ files. get files name ≡ Some (text certificate))
 
--- words that are `plan SCENARIO BOOK LATTICE CERT`: the three files have readings that are accepted together, the answer over their scene was written, and CERT holds a certificate that shows it
-abbrev pub PlanPrintsTheAnswer : List (List ℕ) → Option Files → Option Files → (List ℕ → Type 0) → Type 0
+-- words that are `plan SCENARIO BOOK LATTICE CERT`: the three files have readings that are accepted
+-- together, the answer over their scene was written, and CERT holds a certificate that shows it
+abbrev pub PlanPrintsTheAnswer : List (List ℕ) → Option Files → Option Files → (List ℕ → Type 0)
+    → Type 0
 PlanPrintsTheAnswer words held after Written =
     (scenario book lattice name : List ℕ) → reading words ≡ Some (plan scenario book lattice name)
-    → IfSome held (λ files. (scene : SceneFiles) × (gives (plan_inputs scenario book lattice) files ≡ Ok scene) × IsAnswerWritten [] scene Written × HoldsGoodCertificate name scene after)
+    → IfSome held (λ files. (scene : SceneFiles) ×
+    (gives (plan_inputs scenario book lattice) files ≡ Ok scene)
+    × IsAnswerWritten [] scene Written × HoldsGoodCertificate name scene after)
 
--- words that are `check SCENARIO BOOK LATTICE CERT`: the answer over the scene of the three files was written behind `accepted`, whatever certificate CERT holds
+-- words that are `check SCENARIO BOOK LATTICE CERT`: the answer over the scene of the three files
+-- was written behind `accepted`, whatever certificate CERT holds
 abbrev pub CheckPrintsTheAnswer : List (List ℕ) → Option Files → (List ℕ → Type 0) → Type 0
 CheckPrintsTheAnswer words held Written =
     (scenario book lattice name : List ℕ) → reading words ≡ Some (check scenario book lattice name)
-    → IfSome held (λ files. (input : SceneFiles × Certificate) × (gives (check_inputs scenario book lattice name) files ≡ Ok input) × IsAnswerWritten (codes "accepted\n") input.0 Written)
+    → IfSome held (λ files. (input : SceneFiles × Certificate)
+    × (gives (check_inputs scenario book lattice name) files ≡ Ok input)
+    × IsAnswerWritten (codes "accepted\n") input.0 Written)

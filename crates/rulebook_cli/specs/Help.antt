@@ -14,7 +14,8 @@ help_text =
 
 -- it is printed, whatever the files
 abbrev pub HelpMakes : Files → ⊤ → Outcome → Type 0
-HelpMakes before _ outcome = outcome ≡ record { status = status.Done; text = help_text; files = before }
+HelpMakes before _ outcome =
+    outcome ≡ record { status = status.Done; text = help_text; files = before }
 
 abbrev pub help_task : Task
 help_task = record { Input = ⊤; inputs = given tt; Makes = HelpMakes; saves = None }

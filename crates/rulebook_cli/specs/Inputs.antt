@@ -13,7 +13,8 @@ use Rattle.command_outcome.specs.declared.outcome.Role.TheVariants as role
 use Rattle.command_outcome.specs.Outcome.{fault_at}
 use Rattle.command_outcome.specs.Inputs.{Inputs, file, given, told, ◌>>=◌}
 
--- a fault's name in lower case with dashes between its words, and the number of the line; want of memory has none
+-- a fault's name in lower case with dashes between its words, and the number of the line; want of
+-- memory has none
 abbrev pub book_fault_text : BookFault → Option (List ℕ)
 book_fault_text book.NotUtf8 = Some (codes "not-utf8")
 book_fault_text (book.Syntax n) = Some (fault_at (codes "syntax") n)

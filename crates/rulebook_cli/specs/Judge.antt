@@ -1,5 +1,6 @@
 -- `judge SCENARIO BOOK LATTICE RECORDS`: how recordings stand to one another by a book.
-use Rattle.std.specs.Prelude.{◌≡◌, ℕ, List, [], ◌∷◌, ◌++◌, length, map, slice_index_or, None, Result, Ok, Err, Vec, ⊤}
+use Rattle.std.specs.Prelude.{◌≡◌, ℕ, List, [], ◌∷◌, ◌++◌, length, map, slice_index_or, None}
+use Rattle.std.specs.Prelude.{Result, Ok, Err, Vec, ⊤}
 use Rattle.std.specs.declared.alloc.Global.{Global}
 use Rattle.std.specs.List.{flat_map}
 use Rattle.outside_io.specs.Outside.{Files}
@@ -22,9 +23,11 @@ use Rattle.command_outcome.specs.Outcome.{Outcome}
 use Rattle.command_outcome.specs.Inputs.{Inputs, given, tested, ◌>>=◌}
 use Rattle.command_outcome.specs.Tasks.{Task}
 use Rattle.rulebook_cli.specs.Answers.{NoWorseFor}
-use Rattle.rulebook_cli.specs.Compare.{AreLines, IsPairLine, pair_line, pairs}
+use Rattle.rulebook_cli.specs.Compare.{AreLines, IsPairLine, pair_line}
+use Rattle.rulebook_order.specs.Pairs.{later_pairs}
 use Rattle.rulebook_cli.specs.RecordInput.{records_input}
-use Rattle.rulebook_cli.specs.SceneInputs.{binding_told, bound, features, maneuver_names, scene_files}
+use Rattle.rulebook_cli.specs.SceneInputs.{binding_told, bound, features, maneuver_names}
+use Rattle.rulebook_cli.specs.SceneInputs.{scene_files}
 use Rattle.rulebook_cli.specs.Walk.{rules_line}
 use Rattle.rulebook_cli.specs.declared.scene_files.SceneFiles.{SceneFiles}
 
@@ -65,24 +68,33 @@ row_at runs i = row_of (slice_index_or runs i nobody)
 abbrev pub told_pair : List Rule → List Judged → ℕ × ℕ × Verdict → List ℕ
 told_pair rules runs p = pair_line rules (row_at runs p.0, row_at runs p.1) p.2
 
--- for each recording its vector and its layer, by chains; for each pair the verdict on the two vectors
+-- for each recording its vector and its layer, by chains; for each pair the verdict on the two
+-- vectors
 pub record IsJudgeText (files : SceneFiles) (records : Records) (text : List ℕ) : Type 0 where
   pub runs : List Judged
   pub names : names_of runs ≡ map name_of records.runs
   pub vectors : vectors_of runs ≡ measured (features files) (bound files) records
   pub layers : HaveLayers (NoWorseFor files) runs
   pub told : List ℕ
-  pub verdicts : AreLines (IsPairLine (IsVerdictUnder files.book.statements (length files.book.rules)) files.book.rules) (pairs (map row_of runs)) told
+  pub verdicts : AreLines (IsPairLine (IsVerdictUnder files.book.statements
+      (length files.book.rules)) files.book.rules) (later_pairs (map row_of runs)) told
   pub says : text ≡ rules_line files.book.rules ++ (flat_map judged_line runs ++ told)
 
 -- what is made of the inputs: the files stay
-pub record JudgeMakes (before : Files) (input : SceneFiles × Records) (outcome : Outcome) : Type 0 where
+pub record JudgeMakes (before : Files) (input : SceneFiles × Records)
+    (outcome : Outcome) : Type 0 where
   pub done : outcome.status ≡ status.Done
   pub stays : outcome.files ≡ before
   pub says : IsJudgeText input.0 input.1 outcome.text
 
 abbrev pub judge_task : List ℕ → List ℕ → List ℕ → List ℕ → Task
-judge_task scenario book lattice records = record { Input = SceneFiles × Records; inputs = judge_inputs scenario book lattice records; Makes = JudgeMakes; saves = None }
+judge_task scenario book lattice records =
+    record {
+      Input = SceneFiles × Records;
+      inputs = judge_inputs scenario book lattice records;
+      Makes = JudgeMakes;
+      saves = None;
+    }
 
 -- ---- before anything is written
 

@@ -1,4 +1,5 @@
--- Pairs of places among so many recordings, with a verdict that names rules among so many. This project's own.
+-- Pairs of places among so many recordings, with a verdict that names rules among so many. This
+-- project's own.
 use Rattle.std.specs.Prelude.{ℕ, ◌<◌}
 use Rattle.rulebook_order.specs.declared.verdict.Verdict.{Verdict}
 use Rattle.rulebook_cli.specs.Compare.{AreNamed}

@@ -27,7 +27,9 @@ kept_lines rows (i ∷ places) = flat_map (line_at rows) (i ∷ places)
 
 -- the vectors of the rows are compared over pairs of rules, by the book's statements
 abbrev pub IsPickText : Book → List Row → List ℕ → Type 0
-IsPickText book rows text = (places : List ℕ) × IsFront (NoWorseUnder book.statements (length book.rules)) (vectors_of rows) places × (text ≡ kept_lines rows places)
+IsPickText book rows text =
+    (places : List ℕ) × IsFront (NoWorseUnder book.statements (length book.rules))
+    (vectors_of rows) places × (text ≡ kept_lines rows places)
 
 -- what is made of the inputs: the files stay
 pub record PickMakes (files : Files) (inputs : Book × Table) (outcome : Outcome) : Type 0 where
@@ -36,4 +38,10 @@ pub record PickMakes (files : Files) (inputs : Book × Table) (outcome : Outcome
   pub says : IsPickText inputs.0 inputs.1.rows outcome.text
 
 abbrev pub pick_task : List ℕ → List ℕ → Task
-pick_task book table = record { Input = Book × Table; inputs = book_and_table book table; Makes = PickMakes; saves = None }
+pick_task book table =
+    record {
+      Input = Book × Table;
+      inputs = book_and_table book table;
+      Makes = PickMakes;
+      saves = None;
+    }

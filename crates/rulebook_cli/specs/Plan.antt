@@ -23,15 +23,19 @@ plan_inputs scenario book lattice = do
   files ← scene_files scenario book lattice
   bound_scene files
 
--- there are more undominated pairs of a state and a running vector than a certificate may have labels
+-- there are more undominated pairs of a state and a running vector than a certificate may have
+-- labels
 abbrev pub HasTooMany : SceneFiles → Type 0
 HasTooMany files = HasMoreUndominated (graph_of files) (NoWorseFor files) MAX_LABELS
 
 -- the labels of the certificate have exactly the undominated pairs, each once
 abbrev pub HasUndominated : SceneFiles → Certificate → Type 0
-HasUndominated files certificate = AreUndominated (graph_of files) (NoWorseFor files) (pairs_of (graph_of files) certificate.labels)
+HasUndominated files certificate =
+    AreUndominated (graph_of files) (NoWorseFor files)
+    (pairs_of (graph_of files) certificate.labels)
 
--- a text says the answer, with the trajectories of a certificate that shows it; bytes are the certificate's text, and fit a file
+-- a text says the answer, with the trajectories of a certificate that shows it; bytes are the
+-- certificate's text, and fit a file
 pub record IsPlan (files : SceneFiles) (printed saved : List ℕ) : Type 0 where
   pub few : ¬ HasTooMany files
   pub certificate : Certificate
@@ -44,7 +48,8 @@ pub record IsPlan (files : SceneFiles) (printed saved : List ℕ) : Type 0 where
   pub fits : length saved ≤ MAX_FILE
 
 -- what is printed says the answer, and under the name a certificate is saved that shows it
-pub record IsPlanned (name : List ℕ) (before : Files) (files : SceneFiles) (outcome : Outcome) : Type 0 where
+pub record IsPlanned (name : List ℕ) (before : Files) (files : SceneFiles)
+    (outcome : Outcome) : Type 0 where
   pub bytes : List ℕ
   pub plans : IsPlan files outcome.text bytes
   pub done : outcome.status ≡ status.Done
@@ -53,11 +58,21 @@ pub record IsPlanned (name : List ℕ) (before : Files) (files : SceneFiles) (ou
 -- there are too many, and nothing is saved
 pub record IsTooMuch (before : Files) (files : SceneFiles) (outcome : Outcome) : Type 0 where
   pub many : HasTooMany files
-  pub is : outcome ≡ record { status = status.TooManyLabels; text = codes "too many labels\n"; files = before }
+  pub is : outcome ≡ record {
+    status = status.TooManyLabels;
+    text = codes "too many labels\n";
+    files = before;
+  }
 
 abbrev pub PlanMakes : List ℕ → Files → SceneFiles → Outcome → Type 0
-PlanMakes name before files outcome = IsPlanned name before files outcome ⊎ IsTooMuch before files outcome
+PlanMakes name before files outcome =
+    IsPlanned name before files outcome ⊎ IsTooMuch before files outcome
 
 abbrev pub plan_task : List ℕ → List ℕ → List ℕ → List ℕ → Task
 plan_task scenario book lattice certificate =
-    record { Input = SceneFiles; inputs = plan_inputs scenario book lattice; Makes = PlanMakes certificate; saves = Some certificate }
+    record {
+      Input = SceneFiles;
+      inputs = plan_inputs scenario book lattice;
+      Makes = PlanMakes certificate;
+      saves = Some certificate;
+    }

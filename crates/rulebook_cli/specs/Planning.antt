@@ -11,7 +11,8 @@ use Rattle.rulebook_cli.specs.declared.scene_files.SceneFiles.{SceneFiles}
 -- too many labels, or want of memory
 abbrev pub StopsTooMuch : SceneFiles → Stop → Type 0
 StopsTooMuch files stop.NoMemory = ⊤
-StopsTooMuch files (stop.Ended e text) = HasTooMany files × EndsAs ending.TooManyLabels (codes "too many labels\n") (stop.Ended e text)
+StopsTooMuch files (stop.Ended e text) =
+    HasTooMany files × EndsAs ending.TooManyLabels (codes "too many labels\n") (stop.Ended e text)
 StopsTooMuch files (stop.Unread role) = ⊥
 StopsTooMuch files stop.Unsaved = ⊥
 

@@ -8,7 +8,8 @@ use Rattle.command_outcome.specs.declared.outcome.Role.TheVariants as role
 use Rattle.command_outcome.specs.Outcome.{fault_at}
 use Rattle.command_outcome.specs.Inputs.{Inputs, file, told}
 
--- a fault's name in lower case with dashes between its words, and the number of the row; want of memory has none
+-- a fault's name in lower case with dashes between its words, and the number of the row; want of
+-- memory has none
 abbrev pub record_fault_text : RecordFault → Option (List ℕ)
 record_fault_text fault.WrongHeader = Some (codes "wrong-header")
 record_fault_text (fault.Csv n) = Some (fault_at (codes "csv") n)

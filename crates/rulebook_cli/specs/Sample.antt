@@ -1,5 +1,6 @@
 -- `sample N`: how large the answer over the sample scene of a number is.
-use Rattle.std.specs.Prelude.{◌≡◌, ◌↔◌, ◌⊎◌, ℕ, List, [], ◌∷◌, ◌++◌, length, Contains, None, Result, Ok, Err, Vec, codes}
+use Rattle.std.specs.Prelude.{◌≡◌, ◌↔◌, ◌⊎◌, ℕ, List, [], ◌∷◌, ◌++◌, length, Contains, None, Result}
+use Rattle.std.specs.Prelude.{Ok, Err, Vec, codes}
 use Rattle.std.specs.declared.alloc.Global.{Global}
 use Rattle.outside_io.specs.Outside.{Files}
 use Rattle.text_lines.specs.Lines.{row_line}
@@ -18,7 +19,12 @@ use Rattle.rulebook_cli.specs.declared.scene_files.SceneFiles.{SceneFiles}
 
 -- the sample scene of a number, as if it had been read
 unfoldable pub sample_files : ℕ → SceneFiles
-sample_files number = record { scenario = (sample number).scenario; book = (sample number).book; lattice = (sample number).lattice }
+sample_files number =
+    record {
+      scenario = (sample number).scenario;
+      book = (sample number).book;
+      lattice = (sample number).lattice;
+    }
 
 -- exactly the vectors that no lattice trajectory's beats, each once, in ascending order
 pub record AreUnbeaten (files : SceneFiles) (vectors : List (List ℕ)) : Type 0 where
@@ -30,10 +36,14 @@ abbrev pub first_of : List (List ℕ) → List ℕ
 first_of [] = []
 first_of (v ∷ vectors) = v
 
--- five lines: the number, and how many obstacles, undominated pairs and vectors there are; and the first vector
+-- five lines: the number, and how many obstacles, undominated pairs and vectors there are; and the
+-- first vector
 abbrev pub sample_text : ℕ → ℕ → ℕ → List (List ℕ) → List ℕ
 sample_text number obstacles labels vectors =
-    row_line (codes "sample") (number ∷ []) ++ (row_line (codes "obstacles") (obstacles ∷ []) ++ (row_line (codes "labels") (labels ∷ []) ++ (row_line (codes "front") (length vectors ∷ []) ++ row_line (codes "least") (first_of vectors))))
+    row_line (codes "sample") (number ∷ []) ++ (row_line (codes "obstacles") (obstacles ∷ [])
+    ++ (row_line (codes "labels") (labels ∷ []) ++
+    (row_line (codes "front") (length vectors ∷ [])
+    ++ row_line (codes "least") (first_of vectors))))
 
 -- the text says how large the answer over the scene is
 pub record IsSample (number : ℕ) (files : SceneFiles) (text : List ℕ) : Type 0 where
@@ -45,13 +55,16 @@ pub record IsSample (number : ℕ) (files : SceneFiles) (text : List ℕ) : Type
   pub says : text ≡ sample_text number (length files.scenario.obstacles) (length pairs) vectors
 
 -- it is printed, and the files stay
-pub record IsSampled (number : ℕ) (before : Files) (files : SceneFiles) (outcome : Outcome) : Type 0 where
+pub record IsSampled (number : ℕ) (before : Files) (files : SceneFiles)
+    (outcome : Outcome) : Type 0 where
   pub done : outcome.status ≡ status.Done
   pub stays : outcome.files ≡ before
   pub says : IsSample number files outcome.text
 
 abbrev pub SampleMakes : Files → ℕ → Outcome → Type 0
-SampleMakes before number outcome = IsSampled number before (sample_files number) outcome ⊎ IsTooMuch before (sample_files number) outcome
+SampleMakes before number outcome =
+    IsSampled number before (sample_files number) outcome
+    ⊎ IsTooMuch before (sample_files number) outcome
 
 -- it reads no file
 abbrev pub sample_task : ℕ → Task

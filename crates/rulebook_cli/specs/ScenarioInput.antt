@@ -28,7 +28,8 @@ kind_text kind.Problem = codes "problem"
 kind_text kind.Goal = codes "goal"
 kind_text kind.Region = codes "region"
 
--- a fault's name in lower case with dashes between its words, then its fields; of a fault of the markup that fault
+-- a fault's name in lower case with dashes between its words, then its fields; of a fault of the
+-- markup that fault
 abbrev pub scenario_fault_text : ScenarioFault → Option (List ℕ)
 scenario_fault_text (fault.Markup inner) = markup_fault_text inner
 scenario_fault_text fault.WrongRoot = Some (codes "wrong-root")

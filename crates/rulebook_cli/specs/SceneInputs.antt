@@ -1,5 +1,7 @@
--- A scenario, a book and a lattice as inputs, and what is asked of the three together: that the book can be bound to the scene, and that there is a start. This project's own.
-use Rattle.std.specs.Prelude.{ℕ, ◌+◌, not, ◌==◌, List, [], ◌∷◌, length, map, slice_index_or, pos, Option, None, Some, Result, Ok, Err, if◌then◌else◌, ⊤, codes}
+-- A scenario, a book and a lattice as inputs, and what is asked of the three together: that the
+-- book can be bound to the scene, and that there is a start. This project's own.
+use Rattle.std.specs.Prelude.{ℕ, ◌+◌, not, ◌==◌, List, [], ◌∷◌, length, map, slice_index_or, pos}
+use Rattle.std.specs.Prelude.{Option, None, Some, Result, Ok, Err, if◌then◌else◌, ⊤, codes}
 use Rattle.reading.specs.Reading.{◌>>=◌ as ◌then◌}
 use Rattle.scenario_model.specs.declared.problem.Problem.{Problem}
 use Rattle.scenario_model.specs.declared.scenario.Scenario.{Scenario}
@@ -40,7 +42,8 @@ lattice_kind_text kind.Maneuver = codes "maneuver"
 lattice_kind_text kind.Choice = codes "choice"
 lattice_kind_text kind.Step = codes "step"
 
--- a fault's name in lower case with dashes between its words, and the key, name or kind; want of memory has none
+-- a fault's name in lower case with dashes between its words, and the key, name or kind; want of
+-- memory has none
 abbrev pub lattice_fault_text : LatticeFault → Option (List ℕ)
 lattice_fault_text fault.Toml = Some (codes "toml")
 lattice_fault_text (fault.Missing key) = Some (fault_of (codes "missing") (word key))
@@ -48,7 +51,8 @@ lattice_fault_text (fault.BadValue key) = Some (fault_of (codes "bad-value") (wo
 lattice_fault_text (fault.UnknownClass name) = Some (fault_of (codes "unknown-class") name)
 lattice_fault_text (fault.DuplicateName name) = Some (fault_of (codes "duplicate-name") name)
 lattice_fault_text (fault.EndMismatch name) = Some (fault_of (codes "end-mismatch") name)
-lattice_fault_text (fault.TooMany kind) = Some (fault_of (codes "too-many") (lattice_kind_text kind))
+lattice_fault_text (fault.TooMany kind) =
+    Some (fault_of (codes "too-many") (lattice_kind_text kind))
 lattice_fault_text fault.NoStartClass = Some (codes "no-start-class")
 lattice_fault_text fault.NoMemory = None
 
@@ -79,19 +83,38 @@ scene_files scenario_name book_name lattice_name = do
 
 -- the first planning problem, which a scenario has
 abbrev pub first_problem : Scenario → Problem
-first_problem scenario = slice_index_or scenario.problems 0 (record { id = 0; start = record { tick = 0; position = record { x = pos 0; y = pos 0 }; heading = pos 0; speed = pos 0 }; goals = [] })
+first_problem scenario =
+    slice_index_or scenario.problems 0 (record {
+      id = 0;
+      start = record {
+        tick = 0;
+        position = record { x = pos 0; y = pos 0 };
+        heading = pos 0;
+        speed = pos 0;
+      };
+      goals = [];
+    })
 
 -- a vehicle on its way over the lattice, for the first problem among the lanelets
 abbrev pub scene : SceneFiles → Scene
-scene files = record { lattice = files.lattice; lanes = lanes_of files.scenario; problem = first_problem files.scenario }
+scene files =
+    record {
+      lattice = files.lattice;
+      lanes = lanes_of files.scenario;
+      problem = first_problem files.scenario;
+    }
 
 -- the names of the lattice's maneuvers, in its order
 abbrev pub maneuver_names : Lattice → List (List ℕ)
 maneuver_names lattice = map (λ (m : Maneuver). m.name) lattice.maneuvers
 
--- the features of the scene: over all its lanelets and obstacles, for a vehicle of the lattice's size
+-- the features of the scene: over all its lanelets and obstacles, for a vehicle of the lattice's
+-- size
 abbrev pub features : SceneFiles → Features
-features files = features_of (scene_among (lanes_of files.scenario) files.scenario.obstacles files.lattice.length files.lattice.width (maneuver_names files.lattice))
+features files =
+    features_of (scene_among
+    (lanes_of files.scenario) files.scenario.obstacles files.lattice.length files.lattice.width
+    (maneuver_names files.lattice))
 
 -- the book as it is bound to the features
 abbrev pub bound : SceneFiles → Bound
@@ -113,7 +136,8 @@ bind_parts f i (part ∷ parts) = ◌then◌ (bind_part f i part) (λ _. bind_pa
 
 -- rule i: it isn't bare
 abbrev pub bind_rule : Features → ℕ → Rule → Result ⊤ BindFault
-bind_rule f i rule = if length rule.parts == 0 then Err (bind.BareRule i) else bind_parts f i rule.parts
+bind_rule f i rule =
+    if length rule.parts == 0 then Err (bind.BareRule i) else bind_parts f i rule.parts
 
 -- the rules from number i on
 abbrev pub bind_rules : Features → ℕ → List Rule → Result ⊤ BindFault
@@ -123,19 +147,23 @@ bind_rules f i (rule ∷ rules) = ◌then◌ (bind_rule f i rule) (λ _. bind_ru
 -- the fault's name and the rule's; want of memory has none
 abbrev pub bind_fault_text : List Rule → BindFault → Option (List ℕ)
 bind_fault_text rules (bind.BareRule i) = Some (fault_of (codes "bare-rule") (rule_name rules i))
-bind_fault_text rules (bind.UnknownFeature i) = Some (fault_of (codes "unknown-feature") (rule_name rules i))
-bind_fault_text rules (bind.RangeTooLarge i) = Some (fault_of (codes "range-too-large") (rule_name rules i))
+bind_fault_text rules (bind.UnknownFeature i) =
+    Some (fault_of (codes "unknown-feature") (rule_name rules i))
+bind_fault_text rules (bind.RangeTooLarge i) =
+    Some (fault_of (codes "range-too-large") (rule_name rules i))
 bind_fault_text rules bind.NoMemory = None
 
 abbrev pub binding_told : SceneFiles → Result ⊤ (Option (List ℕ))
-binding_told files = told (bind_fault_text files.book.rules) (bind_rules (features files) 0 files.book.rules)
+binding_told files =
+    told (bind_fault_text files.book.rules) (bind_rules (features files) 0 files.book.rules)
 
 abbrev pub start_found : Option ℕ → Result ⊤ (Option (List ℕ))
 start_found None = Err (lattice_fault_text fault.NoStartClass)
 start_found (Some class) = Ok tt
 
 abbrev pub start_told : SceneFiles → Result ⊤ (Option (List ℕ))
-start_told files = start_found (start_class files.lattice (first_problem files.scenario).start.speed)
+start_told files =
+    start_found (start_class files.lattice (first_problem files.scenario).start.speed)
 
 abbrev pub with_start : SceneFiles → Inputs SceneFiles
 with_start files = do

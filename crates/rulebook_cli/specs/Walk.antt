@@ -1,4 +1,5 @@
--- `walk SCENARIO BOOK LATTICE LIST`: what a list of maneuvers amounts to, and whether it ends at a goal.
+-- `walk SCENARIO BOOK LATTICE LIST`: what a list of maneuvers amounts to, and whether it ends at a
+-- goal.
 use Rattle.std.specs.Prelude.{◌≡◌, ◌↔◌, ℕ, Bool, true, false, List, ◌++◌, IsTrue, None, codes}
 use Rattle.std.specs.List.{flat_map}
 use Rattle.outside_io.specs.Outside.{Files}
@@ -27,11 +28,13 @@ goal_line false = codes "goal no\n"
 
 -- the three lines
 abbrev pub walk_lines : List Rule → List ℕ → Bool → List ℕ
-walk_lines rules vector goal = rules_line rules ++ (row_line (codes "vector") vector ++ goal_line goal)
+walk_lines rules vector goal =
+    rules_line rules ++ (row_line (codes "vector") vector ++ goal_line goal)
 
 -- the violation vector of a list of choices: of the start step and all steps of its maneuvers
 abbrev pub vector_of : SceneFiles → List ℕ → List ℕ
-vector_of files list = trajectory_vector (features files) (bound files) (trajectory (scene files) list)
+vector_of files list =
+    trajectory_vector (features files) (bound files) (trajectory (scene files) list)
 
 -- `goal yes` stands there exactly where the list is a lattice trajectory
 pub record IsWalkText (files : SceneFiles) (list : List ℕ) (text : List ℕ) : Type 0 where
@@ -55,10 +58,17 @@ walk_inputs scenario book lattice list = do
   with_scene list files
 
 -- what is made of the inputs: the files stay
-pub record WalkMakes (before : Files) (input : SceneFiles × List ℕ) (outcome : Outcome) : Type 0 where
+pub record WalkMakes (before : Files) (input : SceneFiles × List ℕ)
+    (outcome : Outcome) : Type 0 where
   pub done : outcome.status ≡ status.Done
   pub stays : outcome.files ≡ before
   pub says : IsWalkText input.0 input.1 outcome.text
 
 abbrev pub walk_task : List ℕ → List ℕ → List ℕ → List ℕ → Task
-walk_task scenario book lattice list = record { Input = SceneFiles × List ℕ; inputs = walk_inputs scenario book lattice list; Makes = WalkMakes; saves = None }
+walk_task scenario book lattice list =
+    record {
+      Input = SceneFiles × List ℕ;
+      inputs = walk_inputs scenario book lattice list;
+      Makes = WalkMakes;
+      saves = None;
+    }

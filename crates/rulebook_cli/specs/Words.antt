@@ -1,5 +1,6 @@
 -- What the words of the command line ask for. This project's own.
-use Rattle.std.specs.Prelude.{◌≡◌, ◌≤◌, ℕ, Bool, false, not, ◌&&◌, ◌==◌, if◌then◌else◌, List, [], ◌∷◌, map, Option, None, Some, length, nat_le, ⊤, codes}
+use Rattle.std.specs.Prelude.{◌≡◌, ◌≤◌, ℕ, Bool, false, not, ◌&&◌, ◌==◌, if◌then◌else◌, List, []}
+use Rattle.std.specs.Prelude.{◌∷◌, map, Option, None, Some, length, nat_le, ⊤, codes}
 use Rattle.std.specs.declared.alloc.Global.{Global}
 use Rattle.std.specs.declared.string.String.{String}
 use Rattle.std.specs.String.{string_bytes}
@@ -9,7 +10,9 @@ use Rattle.std.specs.Str.{bytes_eq}
 use Rattle.reading.specs.Words.{number_of}
 use Rattle.sample_scene.specs.declared.sample.TheConstants.{MAX_NUMBER}
 use Rattle.rulebook_cli.specs.declared.words.Command.{Command}
-use Rattle.rulebook_cli.specs.declared.words.Command.TheVariants.{Pick, Compare, Show, Walk, Accept, Derive, Judge, Plan, Check, Sample, Help}
+use Rattle.rulebook_cli.specs.declared.words.Command.TheVariants.{Pick, Compare, Show, Walk, Accept}
+use Rattle.rulebook_cli.specs.declared.words.Command.TheVariants.{Derive, Judge, Plan, Check}
+use Rattle.rulebook_cli.specs.declared.words.Command.TheVariants.{Sample, Help}
 use Rattle.rulebook_cli.specs.declared.words.TheConstants.{MAX_DIGITS}
 
 -- a command with the names of its files
@@ -100,9 +103,12 @@ request_of (Show scenario) = show scenario.now
 request_of (Walk scenario book lattice list) = walk scenario.now book.now lattice.now list.now
 request_of (Accept parent child) = accept parent.now child.now
 request_of (Derive parent script) = derive parent.now script.now
-request_of (Judge scenario book lattice records) = judge scenario.now book.now lattice.now records.now
-request_of (Plan scenario book lattice certificate) = plan scenario.now book.now lattice.now certificate.now
-request_of (Check scenario book lattice certificate) = check scenario.now book.now lattice.now certificate.now
+request_of (Judge scenario book lattice records) =
+    judge scenario.now book.now lattice.now records.now
+request_of (Plan scenario book lattice certificate) =
+    plan scenario.now book.now lattice.now certificate.now
+request_of (Check scenario book lattice certificate) =
+    check scenario.now book.now lattice.now certificate.now
 request_of (Sample number) = sample number
 request_of Help = help
 

@@ -4,7 +4,8 @@ ghost use Rattle.text_lines.specs.Lines.{cells};
 ghost use Rattle.certificate_text.specs.Text.{spaced};
 ghost use Rattle.maneuver_lattice.specs.Moves.{scene_of};
 ghost use Rattle.maneuver_lattice.specs.Scenes.{start};
-ghost use Rattle.rulebook_cli.specs.Answers.{answer_line, comes_before, front_lines, maneuver_words};
+ghost use Rattle.rulebook_cli.specs.Answers.{answer_line, comes_before, front_lines};
+ghost use Rattle.rulebook_cli.specs.Answers.{maneuver_words};
 ghost use Rattle.rulebook_cli.specs.Driven.{HasList, MayBeDriven};
 
 use crate::bound_scene::Graph;
@@ -18,8 +19,10 @@ pub fn ascending<'a>(
     alloc: Global,
     answers: &'a [Attained],
 ) -> Result<Vec<&'a Attained>, AllocError>
-    ensures same { IfOk result (λ sorted. IsPermutation answers.now (map (λ answer. answer.now) sorted.items)) }
-    ensures sorted { IfOk result (λ sorted. IsSortedBy comes_before (map (λ answer. answer.now) sorted.items)) }
+    ensures same { IfOk result (λ sorted. IsPermutation answers.now
+        (map (λ answer. answer.now) sorted.items)) }
+    ensures sorted { IfOk result (λ sorted. IsSortedBy comes_before
+        (map (λ answer. answer.now) sorted.items)) }
 {
     let mut sorted: Vec<&Attained> = answers.iter().collect(alloc)?;
     sorted.sort_by(|one, other| one.vector.as_slice().cmp(other.vector.as_slice()))?;
@@ -56,8 +59,10 @@ fn push_maneuvers(
     list: &[u32],
 ) -> Result<(), AllocError>
     requires lattice { lattice.now ≡ (scene_of graph.now.moves).lattice }
-    requires list { MayBeDriven (scene_of graph.now.moves) (start (scene_of graph.now.moves)) list.now }
-    ensures { OnOk result (out.new.items ≡ out.old.items ++ maneuver_words (scene_of graph.now.moves) (start (scene_of graph.now.moves)) list.now) }
+    requires list { MayBeDriven (scene_of graph.now.moves)
+        (start (scene_of graph.now.moves)) list.now }
+    ensures { OnOk result (out.new.items ≡ out.old.items
+        ++ maneuver_words (scene_of graph.now.moves) (start (scene_of graph.now.moves)) list.now) }
 {
     let maneuvers = lattice.maneuvers.as_slice();
     let mut state = graph.moves().start_state();
@@ -81,7 +86,8 @@ fn push_answer(
 ) -> Result<(), AllocError>
     requires lattice { lattice.now ≡ (scene_of graph.now.moves).lattice }
     requires list { HasList (scene_of graph.now.moves) answer.now }
-    ensures { OnOk result (out.new.items ≡ out.old.items ++ answer_line (scene_of graph.now.moves) answer.now) }
+    ensures { OnOk result (out.new.items ≡ out.old.items
+        ++ answer_line (scene_of graph.now.moves) answer.now) }
 {
     push_spaced(alloc, out, answer.vector.as_slice())?;
     out.extend_from_slice(b" :")?;
@@ -99,8 +105,10 @@ pub fn push_front(
     answers: &[&Attained],
 ) -> Result<(), AllocError>
     requires lattice { lattice.now ≡ (scene_of graph.now.moves).lattice }
-    requires lists { All (HasList (scene_of graph.now.moves)) (map (λ answer. answer.now) answers.now) }
-    ensures { OnOk result (out.new.items ≡ out.old.items ++ front_lines (scene_of graph.now.moves) (map (λ answer. answer.now) answers.now)) }
+    requires lists { All (HasList (scene_of graph.now.moves))
+        (map (λ answer. answer.now) answers.now) }
+    ensures { OnOk result (out.new.items ≡ out.old.items
+        ++ front_lines (scene_of graph.now.moves) (map (λ answer. answer.now) answers.now)) }
 {
     if answers.is_empty() {
         return out.extend_from_slice(b"none\n");

@@ -10,8 +10,11 @@ ghost use Rattle.maneuver_lattice.specs.Starts.{start_class};
 ghost use Rattle.command_outcome.specs.declared.outcome.Role.TheVariants as role;
 ghost use Rattle.command_outcome.specs.Ends.{Loads, Shelf, Tests};
 ghost use Rattle.command_outcome.specs.Outcome.{Refuses};
-ghost use Rattle.rulebook_cli.specs.BoundScenes.{AreSceneFiles, IsBoundScene, IsGraphOf, NamesARule};
-ghost use Rattle.rulebook_cli.specs.SceneInputs.{bind_fault_text, binding_told, bound, bound_scene, features, first_problem, maneuver_names, start_told};
+ghost use Rattle.rulebook_cli.specs.BoundScenes.{AreSceneFiles, IsBoundScene, IsGraphOf};
+ghost use Rattle.rulebook_cli.specs.BoundScenes.{NamesARule};
+ghost use Rattle.rulebook_cli.specs.SceneInputs.{bind_fault_text, binding_told, bound, bound_scene};
+ghost use Rattle.rulebook_cli.specs.SceneInputs.{features, first_problem, maneuver_names};
+ghost use Rattle.rulebook_cli.specs.SceneInputs.{start_told};
 
 use crate::scene_files::{SceneFiles, refuse_lattice};
 use command_outcome::{Role, Stop, refuse_named};
@@ -27,10 +30,15 @@ use violation_measures::{BindFault, Bound, SceneSource, bind};
 /// A scenario, a book and a lattice, with the book bound to the scene's features.
 #[derive(Drop)]
 pub struct BoundScene {
+    /// What was read.
     pub files: SceneFiles,
+    /// The scenario's lanelets.
     pub network: Network,
+    /// The scenario's obstacles.
     pub traffic: Traffic,
+    /// The names of the lattice's maneuvers, in their order.
     pub names: List<Name>,
+    /// The book, bound to the scene.
     pub bound: Bound,
 }
 
@@ -49,8 +57,11 @@ pub fn first_problem(scenario: &Scenario) -> &Problem
 /// What surrounds the vehicle, and the names of its maneuvers.
 #[derive(Drop)]
 pub struct Surroundings {
+    /// The scenario's lanelets.
     pub network: Network,
+    /// The scenario's obstacles.
     pub traffic: Traffic,
+    /// The names of the lattice's maneuvers, in their order.
     pub names: List<Name>,
 }
 
@@ -68,7 +79,8 @@ fn network_of(alloc: Global, scenario: &Scenario) -> Result<Network, NoMemory>
 pub fn surroundings_of(alloc: Global, files: &SceneFiles) -> Result<Surroundings, NoMemory>
     requires { AreSceneFiles files.now }
     ensures network { IfOk result (λ around. around.network ≡ lanes_of files.now.scenario) }
-    ensures traffic { IfOk result (λ around. IsTrafficOf files.now.scenario.obstacles around.traffic) }
+    ensures traffic { IfOk result
+        (λ around. IsTrafficOf files.now.scenario.obstacles around.traffic) }
     ensures names { IfOk result (λ around. around.names ≡ maneuver_names files.now.lattice) }
 {
     Ok(Surroundings {
@@ -119,7 +131,8 @@ fn test_start(alloc: Global, files: &SceneFiles, network: &Network) -> Result<()
     requires files { AreSceneFiles files.now }
     requires network { network.now ≡ lanes_of files.now.scenario }
     ensures tests { Tests (λ _. tt) role.Lattice (start_told files.now) result }
-    ensures starts { IfOk result (λ _. IsSome (start_class files.now.lattice (first_problem files.now.scenario).start.speed)) }
+    ensures starts { IfOk result (λ _. IsSome (start_class files.now.lattice
+        (first_problem files.now.scenario).start.speed)) }
 {
     match SceneMoves::new(&files.lattice, network, first_problem(&files.scenario)) {
         Ok(_) => Ok(()),

@@ -14,7 +14,8 @@ ghost use Rattle.command_outcome.specs.Ends.{Loads, shelf};
 ghost use Rattle.command_outcome.specs.Outcome.{Refuses};
 ghost use Rattle.rulebook_cli.specs.Answers.{NoWorseFor, graph_of};
 ghost use Rattle.rulebook_cli.specs.BoundScenes.{IsBoundScene, IsGraphOf, graph_at};
-ghost use Rattle.rulebook_cli.specs.Certificates.{IsOrderOf, IsShownText, IsSortedText, certificate_fault_text, certificate_input};
+ghost use Rattle.rulebook_cli.specs.Certificates.{IsOrderOf, IsShownText, IsSortedText};
+ghost use Rattle.rulebook_cli.specs.Certificates.{certificate_fault_text, certificate_input};
 ghost use Rattle.rulebook_cli.specs.Driven.{HasList};
 
 use crate::answers::{ascending, push_front};
@@ -54,7 +55,8 @@ pub fn load_certificate<S: Store>(
     name: &str,
 ) -> Result<Certificate, Stop>
     ensures loads { Loads (λ certificate. certificate) (certificate_input name.now)
-        (shelf S.held S.faults S.failed store.old) (shelf S.held S.faults S.failed store.new) result }
+        (shelf S.held S.faults S.failed store.old)
+        (shelf S.held S.faults S.failed store.new) result }
     ensures within { IfOk result HasText }
 {
     let bytes = load_bytes(alloc, store, Role::Certificate, name)?;
@@ -83,14 +85,27 @@ fn checked<L: Ledger>(
     requires name { blank.name ≡ L.name }
     requires parts { blank.parts ≡ L.parts }
     requires some { 0 < blank.parts }
-    requires order { (graph_at (scene_of graph.now.moves) graph.now.source.now graph.now.bound.now).width ≡ rules_of (order_of order.now) }
+    requires order { (graph_at
+        (scene_of graph.now.moves) graph.now.source.now graph.now.bound.now).width
+        ≡ rules_of (order_of order.now) }
     requires count { length certificate.now.labels < 2 ^ 32 }
-    ensures good { IfOk result (λ _. IsGood (graph_at (scene_of graph.now.moves) graph.now.source.now graph.now.bound.now) (NoWorseBy (order_of order.now)) certificate.now) }
-    ensures vectors { IfOk result (λ checked. vectors_of checked.answers ≡ answers_of (graph_at (scene_of graph.now.moves) graph.now.source.now graph.now.bound.now) certificate.now) }
-    ensures choices { IfOk result (λ checked. FollowParents certificate.now.labels certificate.now.finals checked.answers) }
-    ensures attained { IfOk result (λ checked. AreAttained (graph_at (scene_of graph.now.moves) graph.now.source.now graph.now.bound.now) checked.answers) }
-    ensures answer { IfOk result (λ checked. IsAnswerList (graph_at (scene_of graph.now.moves) graph.now.source.now graph.now.bound.now) (NoWorseBy (order_of order.now)) (vectors_of checked.answers)) }
-    ensures rejected { IfErr result (RejectedBy (Fails (graph_at (scene_of graph.now.moves) graph.now.source.now graph.now.bound.now) (NoWorseBy (order_of order.now)) certificate.now)) }
+    ensures good { IfOk result (λ _. IsGood (graph_at
+        (scene_of graph.now.moves) graph.now.source.now graph.now.bound.now)
+        (NoWorseBy (order_of order.now)) certificate.now) }
+    ensures vectors { IfOk result (λ checked. vectors_of checked.answers
+        ≡ answers_of (graph_at
+        (scene_of graph.now.moves) graph.now.source.now graph.now.bound.now) certificate.now) }
+    ensures choices { IfOk result
+        (λ checked. FollowParents certificate.now.labels certificate.now.finals checked.answers) }
+    ensures attained { IfOk result (λ checked. AreAttained
+        (graph_at
+        (scene_of graph.now.moves) graph.now.source.now graph.now.bound.now) checked.answers) }
+    ensures answer { IfOk result (λ checked. IsAnswerList
+        (graph_at (scene_of graph.now.moves) graph.now.source.now graph.now.bound.now)
+        (NoWorseBy (order_of order.now)) (vectors_of checked.answers)) }
+    ensures rejected { IfErr result (RejectedBy (Fails
+        (graph_at (scene_of graph.now.moves) graph.now.source.now graph.now.bound.now)
+        (NoWorseBy (order_of order.now)) certificate.now)) }
 {
     let mut steps = Steps::<L>::new(blank);
     check(alloc, graph, order, certificate, &mut steps)
@@ -106,7 +121,8 @@ fn shown_text(
 ) -> Result<Vec<u8>, NoMemory>
     requires lattice { files.now.lattice ≡ (scene_of graph.now.moves).lattice }
     requires lists { All (HasList (scene_of graph.now.moves)) answers.now }
-    ensures { IfOk result (λ text. IsSortedText words.now files.now.book.rules (scene_of graph.now.moves) answers.now text.items) }
+    ensures { IfOk result (λ text. IsSortedText words.now files.now.book.rules
+        (scene_of graph.now.moves) answers.now text.items) }
 {
     let sorted = ascending(alloc, answers)?;
     let mut text = words.to_vec(alloc)?;
@@ -115,7 +131,8 @@ fn shown_text(
     Ok(text)
 }
 
-/// The text of what the certificate shows of the scene, behind the words, where it is accepted; else the first condition that it fails.
+/// The text of what the certificate shows of the scene, behind the words, where it is accepted;
+/// else the first condition that it fails.
 pub fn show_answers(
     alloc: Global,
     words: &[u8],
@@ -125,11 +142,14 @@ pub fn show_answers(
     certificate: &Certificate,
 ) -> Result<Vec<u8>, Rejection>
     requires scene { IsBoundScene scene.now }
-    requires graph { IsGraphOf scene.now.files (scene_of graph.now.moves) graph.now.source.now graph.now.bound.now }
+    requires graph { IsGraphOf scene.now.files
+        (scene_of graph.now.moves) graph.now.source.now graph.now.bound.now }
     requires order { IsOrderOf scene.now.files.book (order_of order.now) }
     requires count { length certificate.now.labels < 2 ^ 32 }
-    ensures shown { IfOk result (λ text. IsShownText words.now scene.now.files certificate.now text.items) }
-    ensures rejected { IfErr result (RejectedBy (Fails (graph_of scene.now.files) (NoWorseFor scene.now.files) certificate.now)) }
+    ensures shown { IfOk result
+        (λ text. IsShownText words.now scene.now.files certificate.now text.items) }
+    ensures rejected { IfErr result (RejectedBy (Fails (graph_of scene.now.files)
+        (NoWorseFor scene.now.files) certificate.now)) }
 {
     let checked = checked::<Brand>(alloc, Blank::new(1), graph, order, certificate)?;
     let text = shown_text(

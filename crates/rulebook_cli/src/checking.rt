@@ -60,7 +60,8 @@ pub fn check<S: Store>(
     certificate: &str,
 ) -> Result<Vec<u8>, Stop>
     ensures { Serves (check_task scenario.now book.now lattice.now certificate.now)
-        (shelf S.held S.faults S.failed store.old) (shelf S.held S.faults S.failed store.new) result }
+        (shelf S.held S.faults S.failed store.old)
+        (shelf S.held S.faults S.failed store.new) result }
 {
     let files = load_scene_files(alloc, store, scenario, book, lattice)?;
     let certificate = load_certificate(alloc, store, certificate)?;

@@ -5,7 +5,9 @@ ghost use Rattle.rule_language.specs.Books.{IsBook};
 ghost use Rattle.rule_language.specs.Tables.{IsTable};
 ghost use Rattle.rulebook_order.specs.NoWorseBy.{IsVerdictBy};
 ghost use Rattle.command_outcome.specs.Ends.{Serves, shelf};
-ghost use Rattle.rulebook_cli.specs.Compare.{AddsLines, AreNamed, IsCompareText, IsPairLine, compare_task, pairs, rule_name, verdict_text};
+ghost use Rattle.rulebook_cli.specs.Compare.{AddsLines, AreNamed, IsCompareText, IsPairLine};
+ghost use Rattle.rulebook_cli.specs.Compare.{compare_task, rule_name, verdict_text};
+ghost use Rattle.rulebook_order.specs.Pairs.{later_pairs};
 
 use crate::inputs::load_book_and_table;
 use command_outcome::Stop;
@@ -16,7 +18,7 @@ use rulebook_order::{Verdict, compare};
 use std::alloc::{AllocError, Global};
 use text_lines::push_word;
 
-/// Appends a space and the name of a rule.
+// Appends a space and the name of a rule.
 fn push_rule(out: &mut Vec<u8>, rules: &[Rule], rule: usize) -> Result<(), AllocError>
     requires { rule < length rules.now }
     ensures { OnOk result (out.new.items ≡ out.old.items ++ word (rule_name rules.now rule)) }
@@ -47,7 +49,7 @@ pub fn push_verdict(out: &mut Vec<u8>, rules: &[Rule], verdict: Verdict) -> Resu
     }
 }
 
-/// Appends the line of a pair of rows.
+// Appends the line of a pair of rows.
 fn push_pair(
     out: &mut Vec<u8>,
     order: &Preorder,
@@ -69,7 +71,7 @@ fn push_pair(
     Ok(())
 }
 
-/// Appends the lines of a row against others.
+// Appends the lines of a row against others.
 fn push_against(
     out: &mut Vec<u8>,
     order: &Preorder,
@@ -89,7 +91,7 @@ fn push_against(
     Ok(())
 }
 
-/// The lines of each row against each later one.
+// The lines of each row against each later one.
 fn compare_text(alloc: Global, book: &Book, rows: &[Row]) -> Result<Vec<u8>, AllocError>
     requires book { IsBook book.now }
     requires rows { IsTable (length book.now.rules) rows.now }
@@ -113,7 +115,8 @@ pub fn compare_rows<S: Store>(
     table: &str,
 ) -> Result<Vec<u8>, Stop>
     ensures { Serves (compare_task book.now table.now)
-        (shelf S.held S.faults S.failed store.old) (shelf S.held S.faults S.failed store.new) result }
+        (shelf S.held S.faults S.failed store.old)
+        (shelf S.held S.faults S.failed store.new) result }
 {
     let (book, table) = load_book_and_table(alloc, store, book, table)?;
     let text = compare_text(alloc, &book, table.rows.as_slice())?;

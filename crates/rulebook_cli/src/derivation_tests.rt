@@ -4,7 +4,7 @@ use outside_io::{MemorySink, MemoryStore};
 use std::alloc::Global;
 use std::test::Fail;
 
-/// Runs a command over a parent `p` and a child or a script `q`.
+// Runs a command over a parent `p` and a child or a script `q`.
 fn run(
     alloc: Global,
     command: &str,

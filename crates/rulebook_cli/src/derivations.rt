@@ -5,7 +5,8 @@ ghost use Rattle.command_outcome.specs.Ends.{Loads, Serves, shelf};
 ghost use Rattle.command_outcome.specs.Outcome.{Refuses, fault_of};
 ghost use Rattle.rulebook_cli.specs.Accept.{Accepts, accept_task, kind_text};
 ghost use Rattle.rulebook_cli.specs.Derive.{DerivesText, derive_task, script_input};
-ghost use Rattle.rulebook_cli.specs.DeriveFaults.{comma_number, derive_fault_text, lost_words, pair_words, with_commas};
+ghost use Rattle.rulebook_cli.specs.DeriveFaults.{comma_number, derive_fault_text, lost_words};
+ghost use Rattle.rulebook_cli.specs.DeriveFaults.{pair_words, with_commas};
 
 use crate::inputs::load_book;
 use book_operations::{Accepted, DeriveFault, accept, apply_script};
@@ -163,7 +164,8 @@ pub fn accept_child<S: Store>(
     child: &str,
 ) -> Result<Vec<u8>, Stop>
     ensures { Serves (accept_task parent.now child.now)
-        (shelf S.held S.faults S.failed store.old) (shelf S.held S.faults S.failed store.new) result }
+        (shelf S.held S.faults S.failed store.old)
+        (shelf S.held S.faults S.failed store.new) result }
 {
     let parent = load_book(alloc, store, Role::Parent, parent)?;
     let child = load_book(alloc, store, Role::Child, child)?;
@@ -173,7 +175,8 @@ pub fn accept_child<S: Store>(
 // The script under the name: any bytes.
 fn load_script<S: Store>(alloc: Global, store: &mut S, name: &str) -> Result<Vec<u8>, Stop>
     ensures { Loads (λ script. script.items) (script_input name.now)
-        (shelf S.held S.faults S.failed store.old) (shelf S.held S.faults S.failed store.new) result }
+        (shelf S.held S.faults S.failed store.old)
+        (shelf S.held S.faults S.failed store.new) result }
 {
     load_bytes(alloc, store, Role::Script, name)
 }
@@ -197,7 +200,8 @@ pub fn derive<S: Store>(
     script: &str,
 ) -> Result<Vec<u8>, Stop>
     ensures { Serves (derive_task parent.now script.now)
-        (shelf S.held S.faults S.failed store.old) (shelf S.held S.faults S.failed store.new) result }
+        (shelf S.held S.faults S.failed store.old)
+        (shelf S.held S.faults S.failed store.new) result }
 {
     let parent = load_book(alloc, store, Role::Parent, parent)?;
     let script = load_script(alloc, store, script)?;

@@ -4,7 +4,8 @@ ghost use Rattle.rule_language.specs.Tables.{IsTable};
 ghost use Rattle.command_outcome.specs.declared.outcome.Role.TheVariants as role;
 ghost use Rattle.command_outcome.specs.Outcome.{Refuses};
 ghost use Rattle.command_outcome.specs.Ends.{Loads, shelf};
-ghost use Rattle.rulebook_cli.specs.Inputs.{book_and_table, book_fault_text, book_input, table_fault_text, table_input};
+ghost use Rattle.rulebook_cli.specs.Inputs.{book_and_table, book_fault_text, book_input};
+ghost use Rattle.rulebook_cli.specs.Inputs.{table_fault_text, table_input};
 
 use command_outcome::{Role, Stop, load_bytes, refuse, refuse_at};
 use outside_io::Store;
@@ -19,7 +20,8 @@ pub fn load_book<S: Store>(
     name: &str,
 ) -> Result<Book, Stop>
     ensures loads { Loads (λ book. book) (book_input role name.now)
-        (shelf S.held S.faults S.failed store.old) (shelf S.held S.faults S.failed store.new) result }
+        (shelf S.held S.faults S.failed store.old)
+        (shelf S.held S.faults S.failed store.new) result }
     ensures well_formed { IfOk result IsBook }
 {
     let bytes = load_bytes(alloc, store, role, name)?;
@@ -29,7 +31,7 @@ pub fn load_book<S: Store>(
     }
 }
 
-/// The table under the name, which has a number for each rule of the book.
+// The table under the name, which has a number for each rule of the book.
 fn load_table<S: Store>(
     alloc: Global,
     store: &mut S,
@@ -38,7 +40,8 @@ fn load_table<S: Store>(
 ) -> Result<Table, Stop>
     requires { IsBook book.now }
     ensures loads { Loads (λ table. table) (table_input book.now name.now)
-        (shelf S.held S.faults S.failed store.old) (shelf S.held S.faults S.failed store.new) result }
+        (shelf S.held S.faults S.failed store.old)
+        (shelf S.held S.faults S.failed store.new) result }
     ensures well_formed { IfOk result (λ table. IsTable (length book.now.rules) table.rows) }
 {
     let bytes = load_bytes(alloc, store, Role::Table, name)?;
@@ -56,15 +59,17 @@ pub fn load_book_and_table<S: Store>(
     table: &str,
 ) -> Result<(Book, Table), Stop>
     ensures loads { Loads (λ both. both) (book_and_table book.now table.now)
-        (shelf S.held S.faults S.failed store.old) (shelf S.held S.faults S.failed store.new) result }
-    ensures well_formed { IfOk result (λ both. IsBook both.0 × IsTable (length both.0.rules) both.1.rows) }
+        (shelf S.held S.faults S.failed store.old)
+        (shelf S.held S.faults S.failed store.new) result }
+    ensures well_formed { IfOk result (λ both. IsBook both.0
+        × IsTable (length both.0.rules) both.1.rows) }
 {
     let book = load_book(alloc, store, Role::Book, book)?;
     let table = load_table(alloc, store, table, &book)?;
     Ok((book, table))
 }
 
-/// The refusal of a book in its role, or want of memory.
+// The refusal of a book in its role, or want of memory.
 fn refuse_book(alloc: Global, role: Role, fault: BookFault) -> Stop
     ensures { Refuses role (book_fault_text fault) result }
 {
@@ -81,7 +86,7 @@ fn refuse_book(alloc: Global, role: Role, fault: BookFault) -> Stop
     }
 }
 
-/// The refusal of a table, or want of memory.
+// The refusal of a table, or want of memory.
 fn refuse_table(alloc: Global, fault: TableFault) -> Stop
     ensures { Refuses role.Table (table_fault_text fault) result }
 {

@@ -4,7 +4,8 @@ use outside_io::{MemorySink, MemoryStore};
 use std::alloc::Global;
 use std::test::Fail;
 
-/// A scene, a book and recordings, and the words that name the last two files, which are held under `l` and `r`.
+// A scene, a book and recordings, and the words that name the last two files, which are held under
+// `l` and `r`.
 #[derive(Clone, Copy)]
 struct Driven {
     speed: &'static str,
@@ -15,7 +16,8 @@ struct Driven {
     records_word: &'static str,
 }
 
-// A lanelet of 200 m by 4 m, and a problem that starts at (0, 0) with the speed that stands between the two.
+// A lanelet of 200 m by 4 m, and a problem that starts at (0, 0) with the speed that stands between
+// the two.
 const BEFORE_SPEED: &str =
     "<commonRoad commonRoadVersion=\"2020a\" benchmarkID=\"S1\" timeStepSize=\"0.1\">\n<lanelet id=\"1\"><leftBound><point><x>-50</x><y>2</y></point><point><x>150</x><y>2</y></point></leftBound><rightBound><point><x>-50</x><y>-2</y></point><point><x>150</x><y>-2</y></point></rightBound></lanelet>\n<planningProblem id=\"9\"><initialState><position><point><x>0</x><y>0</y></point></position><orientation><exact>0</exact></orientation><time><exact>0</exact></time><velocity><exact>";
 
@@ -46,7 +48,7 @@ const PLAIN: Driven = Driven {
     records_word: "r",
 };
 
-/// Runs `judge` over the scenario `s`, the book `b`, the lattice `l` and the recordings `r`.
+// Runs `judge` over the scenario `s`, the book `b`, the lattice `l` and the recordings `r`.
 fn judged(alloc: Global, driven: Driven) -> Result<(Status, Vec<u8>), Fail> {
     let mut words = Vec::new(alloc);
     for word in ["judge", "s", "b", driven.lattice_word, driven.records_word] {

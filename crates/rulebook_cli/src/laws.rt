@@ -1,16 +1,19 @@
-ghost use Rattle.rulebook_cli.specs.Laws.{FilesAreKept, NothingIsDueWithoutAFile, OneOutcomeIsDue, OneStatusIsDue, PlansAreAccepted};
+ghost use Rattle.rulebook_cli.specs.Laws.{FilesAreKept, NothingIsDueWithoutAFile, OneOutcomeIsDue};
+ghost use Rattle.rulebook_cli.specs.Laws.{OneStatusIsDue, PlansAreAccepted};
 
 /// Words over files are due one status, and a refusal one text.
 pub fn one_status_is_due()
     ensures { OneStatusIsDue }
 {}
 
-/// Words that save nothing are due one outcome: the status, the text and the files of any two due outcomes are the same.
+/// Words that save nothing are due one outcome: the status, the text and the files of any two due
+/// outcomes are the same.
 pub fn one_outcome_is_due()
     ensures { OneOutcomeIsDue }
 {}
 
-/// A call changes no file but the one that its words name to be saved, and that only where its work is done.
+/// A call changes no file but the one that its words name to be saved, and that only where its work
+/// is done.
 pub fn files_are_kept()
     ensures { FilesAreKept }
 {}

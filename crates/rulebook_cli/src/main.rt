@@ -1,6 +1,7 @@
 //! The program: words come in, and one text and one status go out.
 //!
-//! `run_rulebook` of `src/top.rt` is all that the program does, and its clauses say what that is. What is due to the words over the files stands in `specs/Asked.antt`.
+//! `run_rulebook` of `src/top.rt` is all that the program does, and its clauses say what that is.
+//! What is due to the words over the files stands in `specs/Asked.antt`.
 //! Each command is a file of code, one of definitions and one of lemmas.
 #![tactic(auto)]
 

@@ -13,7 +13,7 @@ use rulebook_order::{PairOrder, front_of};
 use std::alloc::{AllocError, Global};
 use text_lines::push_row;
 
-/// The lines of the rows at these places, or `none`.
+// The lines of the rows at these places, or `none`.
 fn kept_lines(alloc: Global, rows: &[Row], places: &[usize]) -> Result<Vec<u8>, AllocError>
     requires { All (λ i. i < length rows.now) places.now }
     ensures { IfOk result (λ text. text.items ≡ kept_lines rows.now places.now) }
@@ -29,7 +29,7 @@ fn kept_lines(alloc: Global, rows: &[Row], places: &[usize]) -> Result<Vec<u8>, 
     Ok(text)
 }
 
-/// The lines of the rows that no row beats, of equal ones the first.
+// The lines of the rows that no row beats, of equal ones the first.
 fn pick_text(alloc: Global, book: &Book, rows: &[Row]) -> Result<Vec<u8>, NoMemory>
     requires book { IsBook book.now }
     requires rows { IsTable (length book.now.rules) rows.now }
@@ -49,7 +49,8 @@ pub fn pick<S: Store>(
     table: &str,
 ) -> Result<Vec<u8>, Stop>
     ensures { Serves (pick_task book.now table.now)
-        (shelf S.held S.faults S.failed store.old) (shelf S.held S.faults S.failed store.new) result }
+        (shelf S.held S.faults S.failed store.old)
+        (shelf S.held S.faults S.failed store.new) result }
 {
     let (book, table) = load_book_and_table(alloc, store, book, table)?;
     let text = pick_text(alloc, &book, table.rows.as_slice())?;

@@ -5,7 +5,6 @@ ghost use Rattle.rulebook_order.specs.NoWorseBy.{no_worse_by};
 ghost use Rattle.rulebook_order.specs.PairOrder.{order_of};
 ghost use Rattle.rulebook_order.specs.VectorOrder.{Holds};
 ghost use Rattle.label_search.specs.Found.{IfTooMany};
-ghost use Rattle.certificate_text.specs.declared.TheConstants.{MAX_LABELS as MOST};
 ghost use Rattle.domination_proof.specs.Shown.{IsShown};
 ghost use Rattle.maneuver_lattice.specs.Moves.{scene_of};
 ghost use Rattle.command_outcome.specs.Ends.{Serves, shelf};
@@ -48,11 +47,19 @@ pub fn searched<L: Ledger>(
     requires name { blank.name ≡ L.name }
     requires parts { blank.parts ≡ L.parts }
     requires some { 0 < blank.parts }
-    requires order { (graph_at (scene_of graph.now.moves) graph.now.source.now graph.now.bound.now).width ≡ rules_of (order_of order.now) }
-    ensures shown { IfOk result (λ found. IsShown (graph_at (scene_of graph.now.moves) graph.now.source.now graph.now.bound.now) (Holds (no_worse_by (order_of order.now))) found) }
-    ensures within { IfOk result (λ found. length found.labels ≤ MOST) }
-    ensures few { IfOk result (λ _. ¬ HasMoreUndominated (graph_at (scene_of graph.now.moves) graph.now.source.now graph.now.bound.now) (Holds (no_worse_by (order_of order.now))) MOST) }
-    ensures many { IfErr result (IfTooMany (HasMoreUndominated (graph_at (scene_of graph.now.moves) graph.now.source.now graph.now.bound.now) (Holds (no_worse_by (order_of order.now))) MOST)) }
+    requires order { (graph_at
+        (scene_of graph.now.moves) graph.now.source.now graph.now.bound.now).width
+        ≡ rules_of (order_of order.now) }
+    ensures shown { IfOk result (λ found. IsShown
+        (graph_at (scene_of graph.now.moves) graph.now.source.now graph.now.bound.now)
+        (Holds (no_worse_by (order_of order.now))) found) }
+    ensures within { IfOk result (λ found. length found.labels ≤ MAX_LABELS) }
+    ensures few { IfOk result (λ _. ¬ HasMoreUndominated
+        (graph_at (scene_of graph.now.moves) graph.now.source.now graph.now.bound.now)
+        (Holds (no_worse_by (order_of order.now))) MAX_LABELS) }
+    ensures many { IfErr result (IfTooMany (HasMoreUndominated
+        (graph_at (scene_of graph.now.moves) graph.now.source.now graph.now.bound.now)
+        (Holds (no_worse_by (order_of order.now))) MAX_LABELS)) }
 {
     let mut steps = Steps::<L>::new(blank);
     search(alloc, graph, order, MAX_LABELS, &mut steps)
@@ -67,12 +74,18 @@ fn plan_found(
     found: &Found<LatticeState>,
 ) -> Result<Planned, NoMemory>
     requires scene { IsBoundScene scene.now }
-    requires graph { IsGraphOf scene.now.files (scene_of graph.now.moves) graph.now.source.now graph.now.bound.now }
+    requires graph { IsGraphOf scene.now.files
+        (scene_of graph.now.moves) graph.now.source.now graph.now.bound.now }
     requires order { IsOrderOf scene.now.files.book (order_of order.now) }
-    requires shown { IsShown (graph_at (scene_of graph.now.moves) graph.now.source.now graph.now.bound.now) (Holds (no_worse_by (order_of order.now))) found.now }
-    requires within { length found.now.labels ≤ MOST }
-    requires few { ¬ HasMoreUndominated (graph_at (scene_of graph.now.moves) graph.now.source.now graph.now.bound.now) (Holds (no_worse_by (order_of order.now))) MOST }
-    ensures { IfOk result (λ planned. IsPlan scene.now.files planned.text.items planned.certificate.items) }
+    requires shown { IsShown
+        (graph_at (scene_of graph.now.moves) graph.now.source.now graph.now.bound.now)
+        (Holds (no_worse_by (order_of order.now))) found.now }
+    requires within { length found.now.labels ≤ MAX_LABELS }
+    requires few { ¬ HasMoreUndominated (graph_at
+        (scene_of graph.now.moves) graph.now.source.now graph.now.bound.now)
+        (Holds (no_worse_by (order_of order.now))) MAX_LABELS }
+    ensures { IfOk result
+        (λ planned. IsPlan scene.now.files planned.text.items planned.certificate.items) }
 {
     found_is_accepted(graph, order, found);
     found_has_a_text(graph, order, found);
@@ -115,7 +128,8 @@ pub fn plan<S: Store>(
     certificate: &str,
 ) -> Result<Vec<u8>, Stop>
     ensures { Serves (plan_task scenario.now book.now lattice.now certificate.now)
-        (shelf S.held S.faults S.failed store.old) (shelf S.held S.faults S.failed store.new) result }
+        (shelf S.held S.faults S.failed store.old)
+        (shelf S.held S.faults S.failed store.new) result }
 {
     let files = load_scene_files(alloc, store, scenario, book, lattice)?;
     let scene = bind_scene(alloc, files)?;

@@ -1,3 +1,4 @@
+ghost use Rattle.violation_measures.specs.declared.scene_source.TheConstants.{MAX_MANEUVERS};
 ghost use Rattle.std.specs.Prelude.{◌≡◌, ◌++◌, ◌≤◌, length, map, All, IfOk, OnOk};
 ghost use Rattle.std.specs.List.{flat_map};
 ghost use Rattle.trajectory_judge.specs.Records.{AreRecords};
@@ -55,9 +56,10 @@ fn load_records<S: Store>(
     name: &str,
     maneuvers: &[Name],
 ) -> Result<Records, Stop>
-    requires { length maneuvers.now ≤ 2048 }
+    requires { length maneuvers.now ≤ MAX_MANEUVERS }
     ensures loads { Loads (λ records. records) (records_input maneuvers.now name.now)
-        (shelf S.held S.faults S.failed store.old) (shelf S.held S.faults S.failed store.new) result }
+        (shelf S.held S.faults S.failed store.old)
+        (shelf S.held S.faults S.failed store.new) result }
     ensures sound { IfOk result (AreRecords (length maneuvers.now)) }
 {
     let bytes = load_bytes(alloc, store, Role::Records, name)?;
@@ -105,7 +107,8 @@ fn push_judgement(
     pairs: &[(u32, u32, Verdict)],
 ) -> Result<(), AllocError>
     requires { All (IsPlaced (length runs.now) (length rules.now)) pairs.now }
-    ensures { OnOk result (out.new.items ≡ out.old.items ++ (flat_map judged_line runs.now ++ flat_map (told_pair rules.now runs.now) pairs.now)) }
+    ensures { OnOk result (out.new.items ≡ out.old.items
+        ++ (flat_map judged_line runs.now ++ flat_map (told_pair rules.now runs.now) pairs.now)) }
 {
     push_all_judged(alloc, out, runs)?;
     push_pairs(out, rules, runs, pairs)
@@ -127,7 +130,8 @@ fn push_pairs(
     pairs: &[(u32, u32, Verdict)],
 ) -> Result<(), AllocError>
     requires { All (IsPlaced (length runs.now) (length rules.now)) pairs.now }
-    ensures { OnOk result (out.new.items ≡ out.old.items ++ flat_map (told_pair rules.now runs.now) pairs.now) }
+    ensures { OnOk result (out.new.items ≡ out.old.items
+        ++ flat_map (told_pair rules.now runs.now) pairs.now) }
 {
     for pair in pairs {
         push_pair(out, rules, runs, *pair)?;
@@ -138,7 +142,9 @@ fn push_pairs(
 // The line of the rules' names, and what was judged.
 fn judgement_text(alloc: Global, rules: &[Rule], judged: &Judgement) -> Result<Vec<u8>, AllocError>
     requires { All (IsPlaced (length judged.now.runs) (length rules.now)) judged.now.pairs }
-    ensures { IfOk result (λ text. text.items ≡ rules_line rules.now ++ (flat_map judged_line judged.now.runs ++ flat_map (told_pair rules.now judged.now.runs) judged.now.pairs)) }
+    ensures { IfOk result (λ text. text.items ≡ rules_line rules.now
+        ++ (flat_map judged_line judged.now.runs ++ flat_map
+        (told_pair rules.now judged.now.runs) judged.now.pairs)) }
 {
     let mut text = Vec::new(alloc);
     push_rules(&mut text, rules)?;
@@ -201,7 +207,8 @@ pub fn judge_records<S: Store>(
     records: &str,
 ) -> Result<Vec<u8>, Stop>
     ensures { Serves (judge_task scenario.now book.now lattice.now records.now)
-        (shelf S.held S.faults S.failed store.old) (shelf S.held S.faults S.failed store.new) result }
+        (shelf S.held S.faults S.failed store.old)
+        (shelf S.held S.faults S.failed store.new) result }
 {
     let files = load_scene_files(alloc, store, scenario, book, lattice)?;
     let names = files.lattice.names(alloc)?;

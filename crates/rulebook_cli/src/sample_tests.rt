@@ -4,7 +4,7 @@ use outside_io::{MemorySink, MemoryStore};
 use std::alloc::Global;
 use std::test::Fail;
 
-/// Runs the words over a store that holds nothing.
+// Runs the words over a store that holds nothing.
 fn run(alloc: Global, words: &[&str]) -> Result<(Status, Vec<u8>), Fail> {
     let mut given = Vec::new(alloc);
     for word in words {
@@ -48,7 +48,7 @@ fn sample_says_how_large_the_answer_is(rt: HostRuntime) -> Result<(), Fail> {
     Ok(())
 }
 
-/// What `--help` prints.
+// What `--help` prints.
 const HELP: &[u8] = b"pick BOOK TABLE
 compare BOOK TABLE
 show SCENARIO

@@ -7,7 +7,7 @@ ghost use Rattle.rulebook_order.specs.NoWorseBy.{no_worse_by};
 ghost use Rattle.rulebook_order.specs.PairOrder.{order_of};
 ghost use Rattle.rulebook_order.specs.VectorOrder.{Holds};
 ghost use Rattle.label_search.specs.Found.{pairs_of};
-ghost use Rattle.certificate_text.specs.declared.TheConstants.{MAX_LABELS as MOST};
+ghost use Rattle.certificate_text.specs.declared.TheConstants.{MAX_LABELS};
 ghost use Rattle.domination_proof.specs.Shown.{IsShown};
 ghost use Rattle.maneuver_lattice.specs.Moves.{scene_of};
 ghost use Rattle.sample_scene.specs.declared.sample.TheConstants.{MAX_NUMBER};
@@ -16,7 +16,8 @@ ghost use Rattle.command_outcome.specs.Ends.{Serves, Shelf};
 ghost use Rattle.rulebook_cli.specs.BoundScenes.{IsBoundScene, IsGraphOf, graph_at};
 ghost use Rattle.rulebook_cli.specs.Certificates.{IsOrderOf};
 ghost use Rattle.rulebook_cli.specs.Answers.{vector_before};
-ghost use Rattle.rulebook_cli.specs.Sample.{IsSample, Samples, first_of, sample_files, sample_task, sample_text};
+ghost use Rattle.rulebook_cli.specs.Sample.{IsSample, Samples, first_of, sample_files, sample_task};
+ghost use Rattle.rulebook_cli.specs.Sample.{sample_text};
 ghost use Rattle.rulebook_cli.specs.Sampled.{IsPairReached};
 
 use crate::bound_scene::{BoundScene, Graph, bind_scene, graph_of, source_of};
@@ -62,9 +63,13 @@ fn final_vectors(
     graph: &Graph<'_>,
     found: &Found<LatticeState>,
 ) -> Result<Vec<Violation>, NoMemory>
-    requires reached { All (IsPairReached (graph_at (scene_of graph.now.moves) graph.now.source.now graph.now.bound.now)) found.now.labels }
+    requires reached { All (IsPairReached (graph_at
+        (scene_of graph.now.moves) graph.now.source.now graph.now.bound.now)) found.now.labels }
     requires finals { All (λ number. number < length found.now.labels) found.now.finals }
-    ensures { IfOk result (λ vectors. vectors.items ≡ finished_vectors (graph_at (scene_of graph.now.moves) graph.now.source.now graph.now.bound.now) (pairs_of found.now.labels) found.now.finals) }
+    ensures { IfOk result (λ vectors. vectors.items
+        ≡ finished_vectors (graph_at
+        (scene_of graph.now.moves) graph.now.source.now graph.now.bound.now)
+        (pairs_of found.now.labels) found.now.finals) }
 {
     let labels = found.labels.as_slice();
     let mut vectors = Vec::new(alloc);
@@ -124,10 +129,15 @@ fn sample_found(
     found: &Found<LatticeState>,
 ) -> Result<Vec<u8>, NoMemory>
     requires scene { IsBoundScene scene.now }
-    requires graph { IsGraphOf scene.now.files (scene_of graph.now.moves) graph.now.source.now graph.now.bound.now }
+    requires graph { IsGraphOf scene.now.files
+        (scene_of graph.now.moves) graph.now.source.now graph.now.bound.now }
     requires order { IsOrderOf scene.now.files.book (order_of order.now) }
-    requires shown { IsShown (graph_at (scene_of graph.now.moves) graph.now.source.now graph.now.bound.now) (Holds (no_worse_by (order_of order.now))) found.now }
-    requires few { ¬ HasMoreUndominated (graph_at (scene_of graph.now.moves) graph.now.source.now graph.now.bound.now) (Holds (no_worse_by (order_of order.now))) MOST }
+    requires shown { IsShown
+        (graph_at (scene_of graph.now.moves) graph.now.source.now graph.now.bound.now)
+        (Holds (no_worse_by (order_of order.now))) found.now }
+    requires few { ¬ HasMoreUndominated (graph_at
+        (scene_of graph.now.moves) graph.now.source.now graph.now.bound.now)
+        (Holds (no_worse_by (order_of order.now))) MAX_LABELS }
     ensures { IfOk result (λ text. IsSample number scene.now.files text.items) }
 {
     let _ = order;

@@ -4,7 +4,8 @@ ghost use Rattle.scenario_xml.specs.Faults.{word};
 ghost use Rattle.command_outcome.specs.declared.outcome.Role.TheVariants as role;
 ghost use Rattle.command_outcome.specs.Ends.{Loads, shelf};
 ghost use Rattle.command_outcome.specs.Outcome.{Refuses};
-ghost use Rattle.rulebook_cli.specs.ScenarioInput.{kind_text, markup_fault_text, scenario_fault_text, scenario_input};
+ghost use Rattle.rulebook_cli.specs.ScenarioInput.{kind_text, markup_fault_text};
+ghost use Rattle.rulebook_cli.specs.ScenarioInput.{scenario_fault_text, scenario_input};
 
 use command_outcome::{Role, Stop, load_bytes, refuse, refuse_at};
 use element_tree::MarkupFault;
@@ -16,7 +17,8 @@ use std::alloc::Global;
 /// The scenario under the name.
 pub fn load_scenario<S: Store>(alloc: Global, store: &mut S, name: &str) -> Result<Scenario, Stop>
     ensures loads { Loads (λ scenario. scenario) (scenario_input name.now)
-        (shelf S.held S.faults S.failed store.old) (shelf S.held S.faults S.failed store.new) result }
+        (shelf S.held S.faults S.failed store.old)
+        (shelf S.held S.faults S.failed store.new) result }
     ensures well_formed { IfOk result IsScenario }
 {
     let bytes = load_bytes(alloc, store, Role::Scenario, name)?;
@@ -26,7 +28,7 @@ pub fn load_scenario<S: Store>(alloc: Global, store: &mut S, name: &str) -> Resu
     }
 }
 
-/// The refusal of a scenario, or want of memory.
+// The refusal of a scenario, or want of memory.
 fn refuse_scenario(alloc: Global, fault: ScenarioFault) -> Stop
     ensures { Refuses role.Scenario (scenario_fault_text fault) result }
 {
@@ -53,7 +55,7 @@ fn refuse_scenario(alloc: Global, fault: ScenarioFault) -> Stop
     }
 }
 
-/// The refusal of a document that is not of the markup's form.
+// The refusal of a document that is not of the markup's form.
 fn refuse_markup(alloc: Global, fault: MarkupFault) -> Stop
     ensures { Refuses role.Scenario (markup_fault_text fault) result }
 {

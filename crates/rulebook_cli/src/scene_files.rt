@@ -3,7 +3,8 @@ ghost use Rattle.maneuver_lattice.specs.Lattice.{IsLattice};
 ghost use Rattle.command_outcome.specs.declared.outcome.Role.TheVariants as role;
 ghost use Rattle.command_outcome.specs.Ends.{Loads, shelf};
 ghost use Rattle.command_outcome.specs.Outcome.{Refuses};
-ghost use Rattle.rulebook_cli.specs.SceneInputs.{lattice_fault_text, lattice_input, lattice_kind_text, scene_files};
+ghost use Rattle.rulebook_cli.specs.SceneInputs.{lattice_fault_text, lattice_input};
+ghost use Rattle.rulebook_cli.specs.SceneInputs.{lattice_kind_text, scene_files};
 ghost use Rattle.rulebook_cli.specs.BoundScenes.{AreSceneFiles};
 
 use crate::inputs::load_book;
@@ -18,15 +19,19 @@ use std::alloc::Global;
 /// A scenario, a book of rules, and a lattice of maneuvers.
 #[derive(Drop)]
 pub struct SceneFiles {
+    /// The scenario read.
     pub scenario: Scenario,
+    /// The book read.
     pub book: Book,
+    /// The lattice read.
     pub lattice: Lattice,
 }
 
 // The lattice under the name.
 fn load_lattice<S: Store>(alloc: Global, store: &mut S, name: &str) -> Result<Lattice, Stop>
     ensures loads { Loads (λ lattice. lattice) (lattice_input name.now)
-        (shelf S.held S.faults S.failed store.old) (shelf S.held S.faults S.failed store.new) result }
+        (shelf S.held S.faults S.failed store.old)
+        (shelf S.held S.faults S.failed store.new) result }
     ensures well_formed { IfOk result IsLattice }
 {
     let bytes = load_bytes(alloc, store, Role::Lattice, name)?;
@@ -45,7 +50,8 @@ pub fn load_scene_files<S: Store>(
     lattice: &str,
 ) -> Result<SceneFiles, Stop>
     ensures loads { Loads (λ files. files) (scene_files scenario.now book.now lattice.now)
-        (shelf S.held S.faults S.failed store.old) (shelf S.held S.faults S.failed store.new) result }
+        (shelf S.held S.faults S.failed store.old)
+        (shelf S.held S.faults S.failed store.new) result }
     ensures well_formed { IfOk result AreSceneFiles }
 {
     let scenario = load_scenario(alloc, store, scenario)?;

@@ -4,7 +4,7 @@ use outside_io::{MemorySink, MemoryStore};
 use std::alloc::Global;
 use std::test::Fail;
 
-/// A scene as the three texts of its files, the scenario in pieces.
+// A scene as the three texts of its files, the scenario in pieces.
 #[derive(Clone, Copy)]
 struct Scene {
     version: &'static str,
@@ -15,7 +15,7 @@ struct Scene {
     lattice: &'static str,
 }
 
-/// What a call leaves: its status, its text, and what stands under the certificate's name.
+// What a call leaves: its status, its text, and what stands under the certificate's name.
 #[derive(Drop)]
 struct Left {
     status: Status,
@@ -23,7 +23,7 @@ struct Left {
     certificate: Vec<u8>,
 }
 
-/// Which calls of the store fail. 0 is none.
+// Which calls of the store fail. 0 is none.
 #[derive(Clone, Copy)]
 struct Failing {
     load: u64,
@@ -130,7 +130,8 @@ fn document(
     )?)
 }
 
-/// Runs a command over the files `s`, `b` and `l`, with a last word, and with a certificate held under `c`.
+// Runs a command over the files `s`, `b` and `l`, with a last word, and with a certificate held
+// under `c`.
 fn run_over(
     alloc: Global,
     command: &str,
@@ -162,7 +163,7 @@ fn run_over(
     })
 }
 
-/// The same over the files of a scene.
+// The same over the files of a scene.
 fn run(
     alloc: Global,
     command: &str,
@@ -737,7 +738,8 @@ fn plan_looks_at_few_of_many_lists(rt: HostRuntime) -> Result<(), Fail> {
 const DOUBLING: &str =
     "if(tick - 1, 2, 1) * if(tick - 2, 2, 1) * if(tick - 3, 2, 1) * if(tick - 4, 2, 1) * if(tick - 5, 2, 1) * if(tick - 6, 2, 1) * if(tick - 7, 2, 1) * if(tick - 8, 2, 1) * if(tick - 9, 2, 1) * if(tick - 10, 2, 1) * if(tick - 11, 2, 1) * if(tick - 12, 2, 1) * if(tick - 13, 2, 1)";
 
-// p costs 2^0, 2^1, .. by a, and q as much by b: all 8,192 sums differ. With horizon 15 there are 57,343 undominated pairs.
+// p costs 2^0, 2^1, .. by a, and q as much by b: all 8,192 sums differ. With horizon 15 there are
+// 57,343 undominated pairs.
 #[test]
 fn plan_prints_many_answers_or_says_too_many(rt: HostRuntime) -> Result<(), Fail> {
     let book = format!(in rt.alloc();

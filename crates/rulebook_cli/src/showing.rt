@@ -3,7 +3,9 @@ ghost use Rattle.std.specs.List.{flat_map};
 ghost use Rattle.std.specs.String.{string_bytes};
 ghost use Rattle.text_lines.specs.Lines.{cells};
 ghost use Rattle.command_outcome.specs.Ends.{Serves, shelf};
-ghost use Rattle.rulebook_cli.specs.Show.{head_lines, lanelet_line, lanelet_lines, moving_text, obstacle_line, obstacle_lines, problem_line, problem_lines, show_task, show_text, version_text};
+ghost use Rattle.rulebook_cli.specs.Show.{head_lines, lanelet_line, lanelet_lines, moving_text};
+ghost use Rattle.rulebook_cli.specs.Show.{obstacle_line, obstacle_lines, problem_line};
+ghost use Rattle.rulebook_cli.specs.Show.{problem_lines, show_task, show_text, version_text};
 
 use crate::scenario_input::load_scenario;
 use command_outcome::Stop;
@@ -27,7 +29,7 @@ fn moving_text(moving: bool) -> &'static str
     if moving { "moving" } else { "static" }
 }
 
-/// Appends each number behind a space.
+// Appends each number behind a space.
 fn push_ids(out: &mut String, ids: &[u64]) -> Result<(), AllocError>
     ensures { OnOk result (string_bytes out.new ≡ string_bytes out.old ++ cells ids.now) }
 {
@@ -39,7 +41,8 @@ fn push_ids(out: &mut String, ids: &[u64]) -> Result<(), AllocError>
 
 #[tactic(auto, unfolding(crate::specs::Show::lanelet_line))]
 fn push_lanelet(out: &mut String, lanelet: &Lanelet) -> Result<(), AllocError>
-    ensures { OnOk result (string_bytes out.new ≡ string_bytes out.old ++ lanelet_line lanelet.now) }
+    ensures { OnOk result (string_bytes out.new ≡ string_bytes out.old
+        ++ lanelet_line lanelet.now) }
 {
     let id = lanelet.id;
     let points = lanelet.left.as_slice().len() + lanelet.right.as_slice().len();
@@ -53,7 +56,8 @@ fn push_lanelet(out: &mut String, lanelet: &Lanelet) -> Result<(), AllocError>
 
 #[tactic(auto, unfolding(crate::specs::Show::obstacle_line))]
 fn push_obstacle(out: &mut String, obstacle: &Obstacle) -> Result<(), AllocError>
-    ensures { OnOk result (string_bytes out.new ≡ string_bytes out.old ++ obstacle_line obstacle.now) }
+    ensures { OnOk result (string_bytes out.new ≡ string_bytes out.old
+        ++ obstacle_line obstacle.now) }
 {
     let id = obstacle.id;
     let moving = moving_text(obstacle.moving);
@@ -67,7 +71,8 @@ fn push_obstacle(out: &mut String, obstacle: &Obstacle) -> Result<(), AllocError
 
 #[tactic(auto, unfolding(crate::specs::Show::problem_line))]
 fn push_problem(out: &mut String, problem: &Problem) -> Result<(), AllocError>
-    ensures { OnOk result (string_bytes out.new ≡ string_bytes out.old ++ problem_line problem.now) }
+    ensures { OnOk result (string_bytes out.new ≡ string_bytes out.old
+        ++ problem_line problem.now) }
 {
     let id = problem.id;
     let x = problem.start.position.x;
@@ -91,7 +96,8 @@ fn push_head(out: &mut String, scenario: &Scenario) -> Result<(), AllocError>
 }
 
 fn push_lanelets(out: &mut String, lanelets: &[Lanelet]) -> Result<(), AllocError>
-    ensures { OnOk result (string_bytes out.new ≡ string_bytes out.old ++ lanelet_lines lanelets.now) }
+    ensures { OnOk result (string_bytes out.new ≡ string_bytes out.old
+        ++ lanelet_lines lanelets.now) }
 {
     let count = lanelets.len();
     write!(out, "lanelets {count}\n")?;
@@ -102,7 +108,8 @@ fn push_lanelets(out: &mut String, lanelets: &[Lanelet]) -> Result<(), AllocErro
 }
 
 fn push_obstacles(out: &mut String, obstacles: &[Obstacle]) -> Result<(), AllocError>
-    ensures { OnOk result (string_bytes out.new ≡ string_bytes out.old ++ obstacle_lines obstacles.now) }
+    ensures { OnOk result (string_bytes out.new ≡ string_bytes out.old
+        ++ obstacle_lines obstacles.now) }
 {
     let count = obstacles.len();
     write!(out, "obstacles {count}\n")?;
@@ -113,7 +120,8 @@ fn push_obstacles(out: &mut String, obstacles: &[Obstacle]) -> Result<(), AllocE
 }
 
 fn push_problems(out: &mut String, problems: &[Problem]) -> Result<(), AllocError>
-    ensures { OnOk result (string_bytes out.new ≡ string_bytes out.old ++ problem_lines problems.now) }
+    ensures { OnOk result (string_bytes out.new ≡ string_bytes out.old
+        ++ problem_lines problems.now) }
 {
     let count = problems.len();
     write!(out, "problems {count}\n")?;
@@ -123,7 +131,7 @@ fn push_problems(out: &mut String, problems: &[Problem]) -> Result<(), AllocErro
     Ok(())
 }
 
-/// The lines of a scenario.
+// The lines of a scenario.
 fn show_text(alloc: Global, scenario: &Scenario) -> Result<String, AllocError>
     ensures { IfOk result (λ text. string_bytes text ≡ show_text scenario.now) }
 {
@@ -138,7 +146,8 @@ fn show_text(alloc: Global, scenario: &Scenario) -> Result<String, AllocError>
 /// What `show SCENARIO` writes.
 pub fn show<S: Store>(alloc: Global, store: &mut S, scenario: &str) -> Result<Vec<u8>, Stop>
     ensures { Serves (show_task scenario.now)
-        (shelf S.held S.faults S.failed store.old) (shelf S.held S.faults S.failed store.new) result }
+        (shelf S.held S.faults S.failed store.old)
+        (shelf S.held S.faults S.failed store.new) result }
 {
     let scenario = load_scenario(alloc, store, scenario)?;
     let text = show_text(alloc, &scenario)?;

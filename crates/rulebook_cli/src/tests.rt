@@ -4,7 +4,8 @@ use outside_io::{MemorySink, MemoryStore};
 use std::alloc::Global;
 use std::test::Fail;
 
-/// What is to fail: the load of this number, and the write of this number after so many bytes. 0 is none.
+// What is to fail: the load of this number, and the write of this number after so many bytes. 0 is
+// none.
 #[derive(Clone, Copy)]
 struct Failing {
     load: u64,
@@ -18,7 +19,7 @@ const NOTHING: Failing = Failing {
     kept: 0,
 };
 
-/// Runs the words over a book `b` and a table `t`.
+// Runs the words over a book `b` and a table `t`.
 fn run(
     alloc: Global,
     words: &[&str],
@@ -40,7 +41,7 @@ fn run(
     Ok((status, out.written().to_vec(alloc)?))
 }
 
-/// What a command writes of a book and a table, where all ends well.
+// What a command writes of a book and a table, where all ends well.
 fn done(alloc: Global, command: &str, book: &[u8], table: &[u8]) -> Result<Vec<u8>, Fail> {
     let (status, text) = run(alloc, &[command, "b", "t"], book, table, &NOTHING)?;
     if status != Status::Done {
@@ -49,7 +50,7 @@ fn done(alloc: Global, command: &str, book: &[u8], table: &[u8]) -> Result<Vec<u
     Ok(text)
 }
 
-/// The book and the table of three behaviours.
+// The book and the table of three behaviours.
 const ABOVE: &[u8] = b"rule a\nrule b\nrule c\nabove a b\n";
 
 const THREE: &[u8] = b"x 1 0 0\ny 0 5 0\nz 0 5 1\n";
@@ -214,7 +215,7 @@ fn a_load_that_fails_is_told_with_its_role(rt: HostRuntime) -> Result<(), Fail> 
     Ok(())
 }
 
-/// A scenario with a problem and nothing else.
+// A scenario with a problem and nothing else.
 const BARE: &[u8] =
     b"<commonRoad commonRoadVersion='2020a' timeStepSize='1'><planningProblem id='4'><initialState><position><point><x>1</x><y>2</y></point></position></initialState><goalState><time><exact>3</exact></time></goalState></planningProblem></commonRoad>";
 
@@ -298,7 +299,7 @@ const GOAL: &[u8] = b"</initialState><goalState>";
 const ENDING: &[u8] =
     b"<time><intervalStart>1</intervalStart><intervalEnd>1</intervalEnd></time></goalState></planningProblem>\n</commonRoad>\n";
 
-/// What `show` writes of a document that is these pieces, joined.
+// What `show` writes of a document that is these pieces, joined.
 fn shown(alloc: Global, pieces: &[&[u8]]) -> Result<(Status, Vec<u8>), Fail> {
     let mut given = Vec::new(alloc);
     for word in ["show", "s"] {

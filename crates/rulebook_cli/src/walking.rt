@@ -51,7 +51,8 @@ struct Walked {
 fn stand(alloc: Global, graph: &Graph<'_>) -> Result<Walked, NoMemory>
     ensures choices { IfOk result (λ walked. walked.choices ≡ []) }
     ensures state { IfOk result (λ walked. walked.state ≡ start (scene_of graph.now.moves)) }
-    ensures reaches { IfOk result (IsWalk (graph_at (scene_of graph.now.moves) graph.now.source.now graph.now.bound.now)) }
+    ensures reaches { IfOk result (IsWalk (graph_at
+        (scene_of graph.now.moves) graph.now.source.now graph.now.bound.now)) }
 {
     let (state, vector) = started(alloc, graph)?;
     Ok(Walked {
@@ -61,7 +62,8 @@ fn stand(alloc: Global, graph: &Graph<'_>) -> Result<Walked, NoMemory>
     })
 }
 
-// The state and the running vector to which a choice leads. Steps are counted in a ledger that begins with this blank.
+// The state and the running vector to which a choice leads. Steps are counted in a ledger that
+// begins with this blank.
 fn stepped<L: Ledger>(
     alloc: Global,
     blank: Blank,
@@ -72,9 +74,12 @@ fn stepped<L: Ledger>(
     requires name { blank.name ≡ L.name }
     requires parts { blank.parts ≡ L.parts }
     requires some { 0 < blank.parts }
-    requires reaches { IsWalk (graph_at (scene_of graph.now.moves) graph.now.source.now graph.now.bound.now) walked.now }
+    requires reaches { IsWalk
+        (graph_at (scene_of graph.now.moves) graph.now.source.now graph.now.bound.now) walked.now }
     requires choice { choice < choices (scene_of graph.now.moves) walked.now.state }
-    ensures { IfOk result (λ pair. pair ≡ pair_by (graph_at (scene_of graph.now.moves) graph.now.source.now graph.now.bound.now) (walked.now.state, walked.now.vector) choice) }
+    ensures { IfOk result (λ pair. pair ≡ pair_by
+        (graph_at (scene_of graph.now.moves) graph.now.source.now graph.now.bound.now)
+        (walked.now.state, walked.now.vector) choice) }
 {
     let mut steps = Steps::<L>::new(blank);
     extended(
@@ -94,11 +99,14 @@ fn go_on(
     walked: Walked,
     choice: usize,
 ) -> Result<Walked, NoMemory>
-    requires reaches { IsWalk (graph_at (scene_of graph.now.moves) graph.now.source.now graph.now.bound.now) walked }
+    requires reaches { IsWalk
+        (graph_at (scene_of graph.now.moves) graph.now.source.now graph.now.bound.now) walked }
     requires choice { choice < choices (scene_of graph.now.moves) walked.state }
     ensures choices { IfOk result (λ longer. longer.choices ≡ walked.choices ++ choice ∷ []) }
-    ensures state { IfOk result (λ longer. longer.state ≡ next (scene_of graph.now.moves) walked.state choice) }
-    ensures reaches { IfOk result (IsWalk (graph_at (scene_of graph.now.moves) graph.now.source.now graph.now.bound.now)) }
+    ensures state { IfOk result (λ longer. longer.state
+        ≡ next (scene_of graph.now.moves) walked.state choice) }
+    ensures reaches { IfOk result (IsWalk (graph_at
+        (scene_of graph.now.moves) graph.now.source.now graph.now.bound.now)) }
 {
     let (state, vector) = stepped::<Brand>(alloc, Blank::new(1), graph, &walked, choice)?;
     let mut choices = walked.choices;
@@ -110,10 +118,13 @@ fn go_on(
     })
 }
 
-// The choices of a list of names, in its order. A name that no choice has is refused by its position.
+// The choices of a list of names, in its order. A name that no choice has is refused by its
+// position.
 fn walk_names(alloc: Global, graph: &Graph<'_>, names: &[&[u8]]) -> Result<Walked, Stop>
-    ensures tests { Tests (λ walked. walked.choices) role.List (moves_told (scene_of graph.now.moves) (map (λ name. name.now) names.now)) result }
-    ensures reaches { IfOk result (IsWalk (graph_at (scene_of graph.now.moves) graph.now.source.now graph.now.bound.now)) }
+    ensures tests { Tests (λ walked. walked.choices) role.List
+        (moves_told (scene_of graph.now.moves) (map (λ name. name.now) names.now)) result }
+    ensures reaches { IfOk result (IsWalk (graph_at
+        (scene_of graph.now.moves) graph.now.source.now graph.now.bound.now)) }
 {
     let mut walked = stand(alloc, graph)?;
     for place in 0..names.len() {
@@ -127,8 +138,10 @@ fn walk_names(alloc: Global, graph: &Graph<'_>, names: &[&[u8]]) -> Result<Walke
 
 // The choices of a list of maneuvers, a word of the command line.
 fn walk_list(alloc: Global, graph: &Graph<'_>, list: &str) -> Result<Walked, Stop>
-    ensures tests { Tests (λ walked. walked.choices) role.List (list_told (scene_of graph.now.moves) list.now) result }
-    ensures reaches { IfOk result (IsWalk (graph_at (scene_of graph.now.moves) graph.now.source.now graph.now.bound.now)) }
+    ensures tests { Tests (λ walked. walked.choices) role.List
+        (list_told (scene_of graph.now.moves) list.now) result }
+    ensures reaches { IfOk result (IsWalk (graph_at
+        (scene_of graph.now.moves) graph.now.source.now graph.now.bound.now)) }
 {
     let names = names_in(alloc, list)?;
     walk_names(alloc, graph, &names)
@@ -178,7 +191,8 @@ pub fn walk<S: Store>(
     list: &str,
 ) -> Result<Vec<u8>, Stop>
     ensures { Serves (walk_task scenario.now book.now lattice.now list.now)
-        (shelf S.held S.faults S.failed store.old) (shelf S.held S.faults S.failed store.new) result }
+        (shelf S.held S.faults S.failed store.old)
+        (shelf S.held S.faults S.failed store.new) result }
 {
     let files = load_scene_files(alloc, store, scenario, book, lattice)?;
     let scene = bind_scene(alloc, files)?;

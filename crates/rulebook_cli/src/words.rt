@@ -3,64 +3,76 @@ ghost use Rattle.std.specs.List.{list_all};
 ghost use Rattle.std.specs.Option.{option_map};
 ghost use Rattle.std.specs.String.{string_bytes};
 ghost use Rattle.sample_scene.specs.declared.sample.TheConstants.{MAX_NUMBER};
-ghost use Rattle.rulebook_cli.specs.Words.{IsCommand, is_another, is_word, reading, texts, request_of, sample_number, no_words, one_word, two_words, four_words, with_words};
+ghost use Rattle.rulebook_cli.specs.Words.{IsCommand, is_another, is_word, reading, texts};
+ghost use Rattle.rulebook_cli.specs.Words.{request_of, sample_number, no_words, one_word};
+ghost use Rattle.rulebook_cli.specs.Words.{two_words, four_words, with_words};
 
 use reading::number_in;
 
 /// A command with its words, most of which name files.
 #[derive(Clone, Copy)]
 pub enum Command<'a> {
+    /// Which rows of the table no row beats.
     Pick {
         book: &'a str,
         table: &'a str,
     },
+    /// How each row of the table stands to each later one.
     Compare {
         book: &'a str,
         table: &'a str,
     },
+    /// What a scenario holds.
     Show {
         scenario: &'a str,
     },
+    /// Where a list of maneuvers leads, and what it violates.
     Walk {
         scenario: &'a str,
         book: &'a str,
         lattice: &'a str,
         list: &'a str,
     },
+    /// Which step the child is from its parent.
     Accept {
         parent: &'a str,
         child: &'a str,
     },
+    /// The book that a script makes of the parent.
     Derive {
         parent: &'a str,
         script: &'a str,
     },
+    /// How recordings stand to one another.
     Judge {
         scenario: &'a str,
         book: &'a str,
         lattice: &'a str,
         records: &'a str,
     },
+    /// The answer over a scene; its certificate is saved.
     Plan {
         scenario: &'a str,
         book: &'a str,
         lattice: &'a str,
         certificate: &'a str,
     },
+    /// Whether a certificate shows an answer over a scene.
     Check {
         scenario: &'a str,
         book: &'a str,
         lattice: &'a str,
         certificate: &'a str,
     },
-    /// The number is at most 999,999.
+    /// How large the answer over a sample scene is. The number is at most `MAX_NUMBER`.
     Sample {
         number: u32,
     },
+    /// What the commands are.
     Help,
 }
 
-/// The most digits of the number of a sample scene.
+// The most digits of the number of a sample scene.
 const MAX_DIGITS: usize = 6;
 
 fn is_word(word: &str) -> bool
@@ -179,7 +191,8 @@ fn four_words<'a>(
     c: &'a str,
     d: &'a str,
 ) -> Option<Command<'a>>
-    ensures request { option_map request_of result ≡ four_words command.now a.now b.now c.now d.now }
+    ensures request { option_map request_of result
+        ≡ four_words command.now a.now b.now c.now d.now }
     ensures within { IfSome result IsCommand }
 {
     match command {

@@ -6,6 +6,7 @@ pub mod NoWorse
 pub mod NoWorseBy
 pub mod NoWorseUnder
 pub mod PairOrder
+pub mod Pairs
 pub mod StepGraph
 pub mod Sums
 pub mod VectorOrder

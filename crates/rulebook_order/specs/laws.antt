@@ -1,4 +1,5 @@
--- That "no worse" has the four laws, and what the proof of that needs. No definition of the subject stands here.
+-- That "no worse" has the four laws, and what the proof of that needs. No definition of the subject
+-- stands here.
 pub mod Below
 pub mod Count
 pub mod NoWorseLaws

@@ -1,8 +1,16 @@
-//! Comparison of violation vectors by a pre-order of rules, and the graphs whose lists of choices are compared.
+//! Comparison of violation vectors by a pre-order of rules, and the graphs whose lists of choices
+//! are compared.
 //!
-//! The layer above uses the four laws of every `VectorOrder`, the laws of every `StepGraph`, and that `PairOrder`, `why_not`, `compare` and `front_of` answer by the words of `specs/NoWorse.antt`.
-//! A reader begins with these definitions: no worse and beats in `specs/NoWorse.antt`, the front of a set in `specs/Front.antt`, verdicts in `specs/Verdict.antt`; then graphs and what lists of choices reach in them in `specs/Graph.antt`, the laws of graphs and of orders in `specs/StepGraph.antt` and `specs/VectorOrder.antt`, and the answer over a graph in `specs/Answer.antt`. `specs/laws/` has the proof of the four laws alone.
-//! Callers cite `proofs/Agree.antt`, `proofs/Unique.antt`, `proofs/Reached.antt` and `proofs/Room.antt`.
+//! The layer above uses the four laws of every `VectorOrder`, the laws of every `StepGraph`, and
+//! that `PairOrder`, `why_not`, `compare` and `front_of` answer by the words of
+//! `specs/NoWorse.antt`.
+//! A reader begins with these definitions: no worse and beats in `specs/NoWorse.antt`, the front of
+//! a set in `specs/Front.antt`, verdicts in `specs/Verdict.antt`; then graphs and what lists of
+//! choices reach in them in `specs/Graph.antt`, the laws of graphs and of orders in
+//! `specs/StepGraph.antt` and `specs/VectorOrder.antt`, and the answer over a graph in
+//! `specs/Answer.antt`. `specs/laws/` has the proof of the four laws alone.
+//! Callers cite `proofs/Agree.antt`, `proofs/Unique.antt`, `proofs/Reached.antt` and
+//! `proofs/Room.antt`.
 #![tactic(auto)]
 
 mod front;

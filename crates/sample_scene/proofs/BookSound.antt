@@ -8,7 +8,7 @@ use Rattle.std.proofs.lemmas.Fmt.{decimal_digit, decimal_step}
 use Rattle.std.proofs.lemmas.List.Elements.{All-nil, All-cons, All-map}
 use Rattle.preorder.specs.Name.{is_name}
 use Rattle.preorder.specs.Statements.{InRange}
-use Rattle.expressions.specs.Bytes.{space, minus_sign}
+use Rattle.reading.specs.Bytes.{space, minus_sign}
 use Rattle.expressions.specs.Written.{call, listed, signed, written, written_step, nesting, nesting_step, is_well_formed, well_formed_step}
 use Rattle.expressions.specs.declared.limits.TheConstants.{MAX_BRACKETS, MAX_LINE}
 use Rattle.expressions.specs.declared.tree.Argument.{Argument}

@@ -8,6 +8,7 @@ use Rattle.std.proofs.lemmas.List.Sums.{count_by-le-length}
 use Rattle.preorder.specs.Name.{is_name}
 use Rattle.maneuver_lattice.specs.Lattice.{class_at, ends_in, leads_from, IsClass, IsLatticeStep, IsManeuver, AreSteps, AreClasses, AreManeuvers, IsLattice}
 use Rattle.maneuver_lattice.specs.Starts.{may_start, is_no_nearer, is_nearest, start_class}
+use Rattle.maneuver_lattice.specs.declared.limits.TheConstants.{MAX_ANGLE, MAX_LENGTH, MAX_SPEED, MAX_STEPS}
 use Rattle.maneuver_lattice.specs.declared.lattice.Class.{Class}
 use Rattle.maneuver_lattice.specs.declared.lattice.LatticeStep.{LatticeStep}
 use Rattle.maneuver_lattice.specs.declared.lattice.Maneuver.{Maneuver}
@@ -16,19 +17,19 @@ use Rattle.sample_scene.proofs.Made.{each_passes}
 use Rattle.sample_scene.proofs.Apart.{different_by_test}
 
 abbrev is_class : Class → Bool
-is_class c = is_name c.name && (nat_le (unsigned_abs c.heading) (10 ^ 7) && nat_le (unsigned_abs c.speed) (10 ^ 6))
+is_class c = is_name c.name && (nat_le (unsigned_abs c.heading) MAX_ANGLE && nat_le (unsigned_abs c.speed) MAX_SPEED)
 
 class_by_test : (c : Class) → is_class c ≡ true → IsClass c
 class_by_test c h =
-    let a = and_parts (is_name c.name) (nat_le (unsigned_abs c.heading) (10 ^ 7) && nat_le (unsigned_abs c.speed) (10 ^ 6)) h in
-    let b = and_parts (nat_le (unsigned_abs c.heading) (10 ^ 7)) (nat_le (unsigned_abs c.speed) (10 ^ 6)) a.1 in
+    let a = and_parts (is_name c.name) (nat_le (unsigned_abs c.heading) MAX_ANGLE && nat_le (unsigned_abs c.speed) MAX_SPEED) h in
+    let b = and_parts (nat_le (unsigned_abs c.heading) MAX_ANGLE) (nat_le (unsigned_abs c.speed) MAX_SPEED) a.1 in
     record { name = a.0; heading = leb-true _ _ b.0; speed = leb-true _ _ b.1 }
 
 abbrev is_placed : LatticeStep → Bool
-is_placed s = nat_le (unsigned_abs s.forward) (10 ^ 7) && (nat_le (unsigned_abs s.left) (10 ^ 7) && nat_le (unsigned_abs s.heading) (10 ^ 7))
+is_placed s = nat_le (unsigned_abs s.forward) MAX_LENGTH && (nat_le (unsigned_abs s.left) MAX_LENGTH && nat_le (unsigned_abs s.heading) MAX_ANGLE)
 
 abbrev is_moved : LatticeStep → Bool
-is_moved s = nat_le (unsigned_abs s.speed) (10 ^ 6) && (nat_le (unsigned_abs s.accel) (10 ^ 6) && nat_le (unsigned_abs s.turn) (10 ^ 7))
+is_moved s = nat_le (unsigned_abs s.speed) MAX_SPEED && (nat_le (unsigned_abs s.accel) MAX_SPEED && nat_le (unsigned_abs s.turn) MAX_ANGLE)
 
 abbrev is_step : LatticeStep → Bool
 is_step s = is_placed s && is_moved s
@@ -36,19 +37,19 @@ is_step s = is_placed s && is_moved s
 step_by_test : (s : LatticeStep) → is_step s ≡ true → IsLatticeStep s
 step_by_test s h =
     let a = and_parts (is_placed s) (is_moved s) h in
-    let b = and_parts (nat_le (unsigned_abs s.forward) (10 ^ 7)) (nat_le (unsigned_abs s.left) (10 ^ 7) && nat_le (unsigned_abs s.heading) (10 ^ 7)) a.0 in
-    let c = and_parts (nat_le (unsigned_abs s.left) (10 ^ 7)) (nat_le (unsigned_abs s.heading) (10 ^ 7)) b.1 in
-    let d = and_parts (nat_le (unsigned_abs s.speed) (10 ^ 6)) (nat_le (unsigned_abs s.accel) (10 ^ 6) && nat_le (unsigned_abs s.turn) (10 ^ 7)) a.1 in
-    let e = and_parts (nat_le (unsigned_abs s.accel) (10 ^ 6)) (nat_le (unsigned_abs s.turn) (10 ^ 7)) d.1 in
+    let b = and_parts (nat_le (unsigned_abs s.forward) MAX_LENGTH) (nat_le (unsigned_abs s.left) MAX_LENGTH && nat_le (unsigned_abs s.heading) MAX_ANGLE) a.0 in
+    let c = and_parts (nat_le (unsigned_abs s.left) MAX_LENGTH) (nat_le (unsigned_abs s.heading) MAX_ANGLE) b.1 in
+    let d = and_parts (nat_le (unsigned_abs s.speed) MAX_SPEED) (nat_le (unsigned_abs s.accel) MAX_SPEED && nat_le (unsigned_abs s.turn) MAX_ANGLE) a.1 in
+    let e = and_parts (nat_le (unsigned_abs s.accel) MAX_SPEED) (nat_le (unsigned_abs s.turn) MAX_ANGLE) d.1 in
     record { forward = leb-true _ _ b.0; left = leb-true _ _ c.0; heading = leb-true _ _ c.1; speed = leb-true _ _ d.0; accel = leb-true _ _ e.0; turn = leb-true _ _ e.1 }
 
 abbrev are_steps : List LatticeStep → Bool
-are_steps steps = nat_le 1 (length steps) && (nat_le (length steps) 50 && list_all is_step steps)
+are_steps steps = nat_le 1 (length steps) && (nat_le (length steps) MAX_STEPS && list_all is_step steps)
 
 steps_by_test : (steps : List LatticeStep) → are_steps steps ≡ true → AreSteps steps
 steps_by_test steps h =
-    let a = and_parts (nat_le 1 (length steps)) (nat_le (length steps) 50 && list_all is_step steps) h in
-    let b = and_parts (nat_le (length steps) 50) (list_all is_step steps) a.1 in
+    let a = and_parts (nat_le 1 (length steps)) (nat_le (length steps) MAX_STEPS && list_all is_step steps) h in
+    let b = and_parts (nat_le (length steps) MAX_STEPS) (list_all is_step steps) a.1 in
     record { some = leb-true _ _ a.0; few = leb-true _ _ b.0; each = each_passes is_step IsLatticeStep step_by_test steps b.1 }
 
 abbrev is_between : List Class → Maneuver → Bool

@@ -11,8 +11,9 @@ use Rattle.scenario_model.specs.Scenario.{IsRead, IsBound, IsShape, IsPose, IsLa
 use Rattle.sample_scene.specs.declared.cars.Course.{Course}
 use Rattle.sample_scene.specs.Motorway.{at, bound, lane, middle, pose, car_shape, drawn_course, drawn_car, goal, problem, scenario}
 use Rattle.sample_scene.proofs.Made.{each_made, each_two_made}
+use Rattle.scenario_model.specs.declared.limits.TheConstants.{MAX_COORDINATE}
 
-bound_is_read : (y : ℤ) → unsigned_abs y ≤ 10 ^ 11 → IsBound (bound y)
+bound_is_read : (y : ℤ) → unsigned_abs y ≤ MAX_COORDINATE → IsBound (bound y)
 bound_is_read y h =
     let first = at (neg_ℤ (pos 500000)) y in
     let last = at (pos 5000000) y in

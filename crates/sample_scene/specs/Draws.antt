@@ -1,4 +1,5 @@
--- Pseudo-random numbers: the linear congruential sequence of the C standard's example, with the upper bits of each state. The start is this project's own.
+-- Pseudo-random numbers: the linear congruential sequence of the C standard's example, with the
+-- upper bits of each state. The start is this project's own.
 use Rattle.std.specs.Prelude.{ℕ, zero, suc, ◌+◌, ◌*◌, ◌/◌, ◌%◌, ◌^◌}
 
 -- the state that follows another

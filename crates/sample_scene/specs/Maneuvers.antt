@@ -1,5 +1,7 @@
--- The sample lattice: three speeds, between which a vehicle changes, and lanes, between which it changes too. This project's own.
--- Lengths are in 0.1 mm, speeds in mm/s, accelerations in mm/s²; a tick is a fifth of a second, in which 1 mm/s passes 0.2 mm.
+-- The sample lattice: three speeds, between which a vehicle changes, and lanes, between which it
+-- changes too. This project's own.
+-- Lengths are in 0.1 mm, speeds in mm/s, accelerations in mm/s²; a tick is a fifth of a second, in
+-- which 1 mm/s passes 0.2 mm.
 use Rattle.std.specs.Prelude.{ℕ, ◌*◌, ℤ, pos, neg_ℤ, ◌+ℤ◌, ◌*ℤ◌, List, [], ◌∷◌, ◌++◌, map, codes}
 use Rattle.std.specs.List.{range_with_len}
 use Rattle.maneuver_lattice.specs.declared.lattice.Class.{Class}
@@ -53,7 +55,13 @@ changing_step speed change j = record {
 
 -- five steps at the speed of a class
 abbrev pub steady : List ℕ → ℕ → ℕ → Side → Maneuver
-steady name place speed side = record { name = name; from = place; to = place; steps = map (steady_step speed side) (range_with_len 1 5) }
+steady name place speed side =
+    record {
+      name = name;
+      from = place;
+      to = place;
+      steps = map (steady_step speed side) (range_with_len 1 5);
+    }
 
 abbrev pub keep : List ℕ → ℕ → ℕ → Maneuver
 keep name place speed = steady name place speed Ahead
@@ -66,7 +74,14 @@ right name place speed = steady name place speed Right
 
 -- five steps from the speed of a class to that of another
 abbrev pub changing : List ℕ → ℕ → ℕ → ℕ → Change → Maneuver
-changing name from to speed change = record { name = name; from = from; to = to; steps = map (changing_step speed change) (range_with_len 1 5) }
+changing name from to speed change =
+    record {
+      name = name;
+      from = from;
+      to = to;
+      steps = map (changing_step speed change)
+          (range_with_len 1 5);
+    }
 
 abbrev pub up : List ℕ → ℕ → ℕ → ℕ → Maneuver
 up name from to speed = changing name from to speed Up
@@ -76,9 +91,12 @@ down name from to speed = changing name from to speed Down
 
 abbrev pub steady_maneuvers : List Maneuver
 steady_maneuvers =
-    keep (codes "keep_slow") 0 5000 ∷ left (codes "left_slow") 0 5000 ∷ right (codes "right_slow") 0 5000
-    ∷ keep (codes "keep_mid") 1 10000 ∷ left (codes "left_mid") 1 10000 ∷ right (codes "right_mid") 1 10000
-    ∷ keep (codes "keep_fast") 2 15000 ∷ left (codes "left_fast") 2 15000 ∷ right (codes "right_fast") 2 15000 ∷ []
+    keep (codes "keep_slow") 0 5000 ∷ left (codes "left_slow") 0 5000
+    ∷ right (codes "right_slow") 0 5000
+    ∷ keep (codes "keep_mid") 1 10000 ∷ left (codes "left_mid") 1 10000
+    ∷ right (codes "right_mid") 1 10000
+    ∷ keep (codes "keep_fast") 2 15000 ∷ left (codes "left_fast") 2 15000
+    ∷ right (codes "right_fast") 2 15000 ∷ []
 
 abbrev pub faster_maneuvers : List Maneuver
 faster_maneuvers = up (codes "up_slow") 0 1 5000 ∷ up (codes "up_mid") 1 2 10000 ∷ []
@@ -92,4 +110,12 @@ maneuvers = steady_maneuvers ++ (faster_maneuvers ++ slower_maneuvers)
 
 -- a car of 4.5 m by 1.8 m, for thirty ticks
 unfoldable pub lattice : Lattice
-lattice = record { horizon = 30; length = pos 45000; width = pos 18000; tolerance = pos 0; classes = classes; maneuvers = maneuvers }
+lattice =
+    record {
+      horizon = 30;
+      length = pos 45000;
+      width = pos 18000;
+      tolerance = pos 0;
+      classes = classes;
+      maneuvers = maneuvers;
+    }

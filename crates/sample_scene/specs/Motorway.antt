@@ -1,6 +1,7 @@
 -- The sample scenario: forty cars on a motorway with three lanes. This project's own.
 -- Lengths are in 0.1 mm, so 10000 is a metre; speeds in mm/s; a tick is a fifth of a second.
-use Rattle.std.specs.Prelude.{ℕ, ◌+◌, ◌*◌, ◌%◌, ℤ, pos, neg_ℤ, ◌+ℤ◌, ◌-ℤ◌, true, List, [], ◌∷◌, map, None}
+use Rattle.std.specs.Prelude.{ℕ, ◌+◌, ◌*◌, ◌%◌, ℤ, pos, neg_ℤ, ◌+ℤ◌, ◌-ℤ◌, true, List, [], ◌∷◌, map}
+use Rattle.std.specs.Prelude.{None}
 use Rattle.std.specs.List.{range_with_len}
 use Rattle.fixed_geometry.specs.declared.point.Point.{Point}
 use Rattle.scenario_model.specs.declared.lanelet.Lanelet.{Lanelet}
@@ -38,7 +39,8 @@ lane place = record {
   adjacent_right = None;
 }
 
--- what three draws say: the lane, from 0 to 2; the start, from 10 to 409 m; the speed, from 4 to 11 m/s
+-- what three draws say: the lane, from 0 to 2; the start, from 10 to 409 m; the speed, from 4 to 11
+-- m/s
 abbrev pub course : ℕ → ℕ → ℕ → Course
 course a b d = record { lane = a % 3; start = 10 + b % 400; speed = 4 + d % 8 }
 
@@ -66,7 +68,8 @@ car id c = record {
 
 -- the course of the car at a place, by draws of its own
 abbrev pub drawn_course : ℕ → ℕ → Course
-drawn_course number place = course (draw number (3 * place)) (draw number (3 * place + 1)) (draw number (3 * place + 2))
+drawn_course number place =
+    course (draw number (3 * place)) (draw number (3 * place + 1)) (draw number (3 * place + 2))
 
 abbrev pub drawn_car : ℕ → ℕ → Obstacle
 drawn_car number place = car (100 + place) (drawn_course number place)
@@ -77,7 +80,17 @@ goal = record { first_tick = 30; last_tick = 30; regions = []; heading = None; s
 
 -- from the middle lane, with 10 m/s
 abbrev pub problem : Problem
-problem = record { id = 900; start = record { tick = 0; position = at (pos 0) (pos 40000); heading = pos 0; speed = pos 10000 }; goals = goal ∷ [] }
+problem =
+    record {
+      id = 900;
+      start = record {
+        tick = 0;
+        position = at (pos 0) (pos 40000);
+        heading = pos 0;
+        speed = pos 10000;
+      };
+      goals = goal ∷ [];
+    }
 
 -- three lanes, forty cars, one problem
 unfoldable pub scenario : ℕ → Scenario

@@ -28,7 +28,9 @@ changing_names = codes "up_slow" ∷ codes "up_mid" ∷ codes "down_mid" ∷ cod
 
 -- the maneuvers to another lane
 abbrev pub turning_names : List (List ℕ)
-turning_names = codes "left_slow" ∷ codes "right_slow" ∷ codes "left_mid" ∷ codes "right_mid" ∷ codes "left_fast" ∷ codes "right_fast" ∷ []
+turning_names =
+    codes "left_slow" ∷ codes "right_slow" ∷ codes "left_mid" ∷ codes "right_mid"
+    ∷ codes "left_fast" ∷ codes "right_fast" ∷ []
 
 abbrev pub rule : List ℕ → List Part → Rule
 rule name parts = record { name = name; parts = parts }

@@ -18,11 +18,17 @@ sample number = record { scenario = scenario number; book = book; lattice = latt
 
 -- a vehicle may start in some class, at the speed of the first problem
 abbrev pub HasStart : SampleScene → Type 0
-HasStart scene = (none : Problem) → IsSome (start_class scene.lattice (slice_index_or scene.scenario.problems 0 none).start.speed)
+HasStart scene =
+    (none : Problem) → IsSome (start_class scene.lattice
+    (slice_index_or scene.scenario.problems 0 none).start.speed)
 
--- the features of the scene: over all its lanelets and obstacles, for a vehicle of the lattice's size and with its maneuvers
+-- the features of the scene: over all its lanelets and obstacles, for a vehicle of the lattice's
+-- size and with its maneuvers
 abbrev pub features : SampleScene → Features
-features scene = features_of (scene_among (lanes_of scene.scenario) scene.scenario.obstacles scene.lattice.length scene.lattice.width (map (λ (m : Maneuver). m.name) scene.lattice.maneuvers))
+features scene =
+    features_of (scene_among
+    (lanes_of scene.scenario) scene.scenario.obstacles scene.lattice.length scene.lattice.width
+    (map (λ (m : Maneuver). m.name) scene.lattice.maneuvers))
 
 -- each rule of the book may be bound to the features
 abbrev pub MayBeBound : SampleScene → Type 0

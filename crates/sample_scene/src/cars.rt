@@ -1,7 +1,8 @@
 ghost use Rattle.std.specs.Prelude.{◌≡◌, ℕ, ◌+◌, ◌*◌, pos, map, IfOk, [], ◌∷◌};
 ghost use Rattle.std.specs.List.{range_with_len};
 ghost use Rattle.sample_scene.specs.Draws.{state_after};
-ghost use Rattle.sample_scene.specs.Motorway.{car, car_shape, course, drawn_car, drawn_course, pose};
+ghost use Rattle.sample_scene.specs.Motorway.{car, car_shape, course, drawn_car, drawn_course};
+ghost use Rattle.sample_scene.specs.Motorway.{pose};
 ghost use Rattle.sample_scene.specs.declared.cars.TheConstants.{CARS, STATES};
 
 use crate::draws::Draws;
@@ -11,13 +12,14 @@ use preorder::{List, NoMemory};
 use scenario_model::{Obstacle, Pose, Shape};
 use std::alloc::Global;
 
-/// How many cars there are.
+// How many cars there are.
 const CARS: u32 = 40;
 
-/// At how many ticks a car has a state.
+// At how many ticks a car has a state.
 const STATES: u32 = 31;
 
-/// How a car drives: the place of its lane, counted from 0; where it starts, in metres; and how fast it is, in metres a second.
+/// How a car drives: the place of its lane, counted from 0; where it starts, in metres; and how
+/// fast it is, in metres a second.
 #[derive(Clone, Copy)]
 pub struct Course {
     lane: u8,
@@ -97,8 +99,10 @@ fn car(alloc: Global, id: u64, course: Course) -> Result<Obstacle, NoMemory>
 
 // The course of the car at a place, by the next three draws.
 fn drawn_course(draws: &mut Draws) -> Course
-    ensures course { (number place : ℕ) → draws.old.state ≡ state_after number (3 * place) → result ≡ drawn_course number place }
-    ensures draws { (number place : ℕ) → draws.old.state ≡ state_after number (3 * place) → draws.new.state ≡ state_after number (3 * (place + 1)) }
+    ensures course { (number place : ℕ) → draws.old.state ≡ state_after number (3 * place)
+        → result ≡ drawn_course number place }
+    ensures draws { (number place : ℕ) → draws.old.state ≡ state_after number (3 * place)
+        → draws.new.state ≡ state_after number (3 * (place + 1)) }
 {
     let a = draws.draw();
     let b = draws.draw();

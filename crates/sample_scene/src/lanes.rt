@@ -8,7 +8,7 @@ use preorder::{List, NoMemory};
 use scenario_model::Lanelet;
 use std::alloc::Global;
 
-/// How many lanes there are.
+// How many lanes there are.
 const LANES: u32 = 3;
 
 /// The middle of the lane at a place, counted from 0.

@@ -1,16 +1,20 @@
-ghost use Rattle.std.specs.Prelude.{◌≡◌, ◌≤◌, ◌*◌, ◌^◌, ◌+ℤ◌, ◌*ℤ◌, [], ◌∷◌, ◌++◌, unsigned_abs, pos, map, IfOk, OnOk};
+ghost use Rattle.std.specs.Prelude.{◌≡◌, ◌≤◌, ◌*◌, ◌^◌, ◌+ℤ◌, ◌*ℤ◌, [], ◌∷◌, ◌++◌, unsigned_abs};
+ghost use Rattle.std.specs.Prelude.{pos, map, IfOk, OnOk};
 ghost use Rattle.std.specs.List.{range_with_len};
-ghost use Rattle.sample_scene.specs.Maneuvers.{changing, changing_step, faster, faster_maneuvers, keep, left, leftward, maneuvers, right, slower_maneuvers, steady, steady_maneuvers, steady_step};
+ghost use Rattle.sample_scene.specs.Maneuvers.{changing, changing_step, faster, faster_maneuvers};
+ghost use Rattle.sample_scene.specs.Maneuvers.{keep, left, leftward, maneuvers, right};
+ghost use Rattle.sample_scene.specs.Maneuvers.{slower_maneuvers, steady, steady_maneuvers};
+ghost use Rattle.sample_scene.specs.Maneuvers.{steady_step};
 
 use crate::literal::name;
 use maneuver_lattice::{LatticeStep, Maneuver};
 use preorder::{List, Name, NoMemory};
 use std::alloc::Global;
 
-/// One more than the number of a maneuver's last step. The first is 1.
+// One more than the number of a maneuver's last step. The first is 1.
 const PAST_STEPS: u8 = 6;
 
-/// A class of the lattice, by its place, and its speed.
+// A class of the lattice, by its place, and its speed.
 #[derive(Clone, Copy)]
 struct Pace {
     place: u32,
@@ -35,8 +39,11 @@ const FAST: Pace = Pace {
 /// Where a vehicle is bound that keeps its speed.
 #[derive(Clone, Copy)]
 pub enum Side {
+    /// It keeps to its lane.
     Ahead,
+    /// It changes to the lane on its left.
     Left,
+    /// It changes to the lane on its right.
     Right,
 }
 
@@ -57,7 +64,9 @@ impl Side {
 /// How a vehicle changes its speed.
 #[derive(Clone, Copy)]
 pub enum Change {
+    /// It becomes faster.
     Up,
+    /// It becomes slower.
     Down,
 }
 
@@ -168,7 +177,8 @@ fn changing(
     to: Pace,
     change: Change,
 ) -> Result<Maneuver, NoMemory>
-    ensures { IfOk result (λ maneuver. maneuver ≡ changing name from.place to.place from.speed change) }
+    ensures { IfOk result
+        (λ maneuver. maneuver ≡ changing name from.place to.place from.speed change) }
 {
     Ok(Maneuver {
         name,
@@ -187,7 +197,8 @@ fn add_steady(
     to_left: Name,
     to_right: Name,
 ) -> Result<(), NoMemory>
-    ensures { OnOk result (them.new ≡ them.old ++ keep keeping pace.place pace.speed ∷ left to_left pace.place pace.speed ∷ right to_right pace.place pace.speed ∷ []) }
+    ensures { OnOk result (them.new ≡ them.old ++ keep keeping pace.place pace.speed
+        ∷ left to_left pace.place pace.speed ∷ right to_right pace.place pace.speed ∷ []) }
 {
     them.push(steady(alloc, keeping, pace, Side::Ahead)?)?;
     them.push(steady(alloc, to_left, pace, Side::Left)?)?;

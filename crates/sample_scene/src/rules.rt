@@ -1,7 +1,8 @@
 ghost use Rattle.std.specs.Prelude.{◌≡◌, [], ◌∷◌, map, IfOk, IsTrue, None};
 ghost use Rattle.preorder.specs.Name.{is_name};
 ghost use Rattle.expressions.specs.declared.tree.Expr.TheVariants as expr;
-ghost use Rattle.sample_scene.specs.Rules.{book, driven, feature, near, part, rule, rules, changing_names, turning_names};
+ghost use Rattle.sample_scene.specs.Rules.{book, driven, feature, near, part, rule, rules};
+ghost use Rattle.sample_scene.specs.Rules.{changing_names, turning_names};
 
 use crate::literal::name;
 use expressions::{Argument, Expr};

@@ -22,8 +22,11 @@ pub const MAX_NUMBER: u32 = 999_999;
 /// A scene to be planned.
 #[derive(Drop)]
 pub struct SampleScene {
+    /// The motorway, its cars, and one planning problem.
     pub scenario: Scenario,
+    /// Five rules.
     pub book: Book,
+    /// Thirteen maneuvers.
     pub lattice: Lattice,
 }
 
@@ -78,7 +81,8 @@ fn scenario(alloc: Global, number: u32) -> Result<Scenario, NoMemory>
     })
 }
 
-/// The sample scene of a number: forty cars on a motorway with three lanes, which depend on the number alone, a book of five rules, and a lattice of thirteen maneuvers.
+/// The sample scene of a number: forty cars on a motorway with three lanes, which depend on the
+/// number alone, a book of five rules, and a lattice of thirteen maneuvers.
 ///
 /// The number is at most `MAX_NUMBER`. Want of memory is the only refusal.
 pub fn sample_scene(alloc: Global, number: u32) -> Result<SampleScene, NoMemory>

@@ -22,8 +22,9 @@ fn state_at(scene: &SampleScene, place: usize, tick: usize) -> Result<Pose, Fail
     Ok(*pose)
 }
 
-// The number, the place of the car, the tick, x, y and the speed. The draws of 0 are 0, 21468 and 9988, which are those of
-// the C standard's `rand` after `srand(0)`; of 7 they are 19564, 9806 and 10868, and at last 7394, 30011 and 30177.
+// The number, the place of the car, the tick, x, y and the speed. The draws of 0 are 0, 21468 and
+// 9988, which are those of the C standard's `rand` after `srand(0)`; of 7 they are 19564, 9806 and
+// 10868, and at last 7394, 30011 and 30177.
 #[test]
 fn cars_drive_as_drawn(rt: HostRuntime) -> Result<(), Fail> {
     let rows = [
@@ -78,7 +79,8 @@ fn last_step(scene: &SampleScene, place: usize, name: &[u8]) -> Result<LatticeSt
     Ok(*step)
 }
 
-// The place of the maneuver, its name, and of its last step how far it is ahead and to the left, the speed and the acceleration.
+// The place of the maneuver, its name, and of its last step how far it is ahead and to the left,
+// the speed and the acceleration.
 #[test]
 fn maneuvers_end_in_their_classes(rt: HostRuntime) -> Result<(), Fail> {
     let scene = scene(rt.alloc(), 0)?;

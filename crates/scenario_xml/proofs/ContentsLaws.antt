@@ -1,5 +1,5 @@
 -- One lanelet, obstacle or problem more, and the whole scenario, are well formed.
-use Rattle.std.proofs.Common.{◌≡◌, ℕ, ◌≤◌, ◌^◌, false, eqb, List, [], ◌∷◌, ◌++◌, length, ℤ, pos, ◌≤ℤ◌, None, Ok, ◌∙◌, subst, arith}
+use Rattle.std.proofs.Common.{◌≡◌, ℕ, ◌≤◌, false, eqb, List, [], ◌∷◌, ◌++◌, length, ℤ, pos, ◌≤ℤ◌, None, Ok, ◌∙◌, subst, arith}
 use Rattle.std.specs.Prelude.{All}
 use Rattle.std.proofs.lemmas.List.Elements.{All-push}
 use Rattle.element_tree.specs.Document.{Document}
@@ -17,9 +17,10 @@ use Rattle.scenario_xml.specs.declared.contents.Contents.{Contents}
 use Rattle.scenario_xml.proofs.KnownAll.{ids_are}
 use Rattle.scenario_xml.proofs.ScenarioLaw.{contents_are}
 use Rattle.scenario_xml.proofs.SoundLaws.{none_found}
+use Rattle.scenario_model.specs.declared.limits.TheConstants.{MAX_STEP_MICROS}
 
-pub lanelet_more : (c : Contents) (l : Lanelet) → AreContents c → IsLanelet c.known l → AreContents (record c { lanelets = c.lanelets ++ l ∷ [] })
-lanelet_more c l h sound = record { lanelets = All-push (IsLanelet c.known) c.lanelets l h.lanelets sound; obstacles = h.obstacles; problems = h.problems }
+pub lanelet_more : (c : Contents) (l : Lanelet) → AreContents c → IsLanelet c.known_ids l → AreContents (record c { lanelets = c.lanelets ++ l ∷ [] })
+lanelet_more c l h sound = record { lanelets = All-push (IsLanelet c.known_ids) c.lanelets l h.lanelets sound; obstacles = h.obstacles; problems = h.problems }
 
 pub obstacle_more : (c : Contents) (o : Obstacle) → AreContents c → IsObstacle o → AreContents (record c { obstacles = c.obstacles ++ o ∷ [] })
 obstacle_more c o h sound = record { lanelets = h.lanelets; obstacles = All-push IsObstacle c.obstacles o h.obstacles sound; problems = h.problems }
@@ -28,12 +29,12 @@ pub problem_more : (c : Contents) (p : Problem) → AreContents c → IsSoundPro
 problem_more c p h sound = record { lanelets = h.lanelets; obstacles = h.obstacles; problems = All-push IsSoundProblem c.problems p h.problems sound }
 
 -- what was read of a whole root
-pub whole_contents : (doc : Document) (version : Version) (c : Contents) → contents doc version ≡ Ok c → AreContents c → AreWhole c
-whole_contents doc version c e h =
-    let read : IsRead doc version (children doc 0) c = contents_are doc version c e in
+pub whole_contents : (document : Document) (version : Version) (c : Contents) → contents document version ≡ Ok c → AreContents c → AreWhole c
+whole_contents document version c e h =
+    let read : IsRead document version (children document 0) c = contents_are document version c e in
     record {
       contents = h;
-      known = read.known ∙ ids_are doc (ids_in doc) c.lanelets read.items.lanelets.read;
+      known_ids = read.known_ids ∙ ids_are document (ids_in document) c.lanelets read.items.lanelets.read;
       lanelet_count = read.items.lanelets.few;
       different_lanelets = read.items.lanelets.different;
       obstacle_count = read.items.obstacles.few;
@@ -50,22 +51,22 @@ abbrev scenario_of : ℤ → Contents → Scenario
 scenario_of step c = record { version = c.version; step_micros = step; lanelets = c.lanelets; obstacles = c.obstacles; problems = c.problems }
 
 abbrev IsStep : ℤ → Type 0
-IsStep step = (pos 1 ≤ℤ step) × (step ≤ℤ pos (10 ^ 9))
+IsStep step = (pos 1 ≤ℤ step) × (step ≤ℤ MAX_STEP_MICROS)
 
 -- where no region is unknown, and there is a problem, the whole is well formed
-pub all_known : (step : ℤ) (c : Contents) → IsStep step → AreWhole c → first_in (unknown_in_problem c.known) c.problems ≡ None → eqb (length c.problems) 0 ≡ false → IsScenario (scenario_of step c)
+pub all_known : (step : ℤ) (c : Contents) → IsStep step → AreWhole c → first_in (unknown_in_problem c.known_ids) c.problems ≡ None → eqb (length c.problems) 0 ≡ false → IsScenario (scenario_of step c)
 all_known step c range h none some =
-    let nothing_unknown = none_found (unknown_in_problem c.known) c.problems none in
-    let problems : All (IsProblem c.known) c.problems = λ k d lt. (h.contents.problems k d lt).among c.known (nothing_unknown k d lt) in
+    let nothing_unknown = none_found (unknown_in_problem c.known_ids) c.problems none in
+    let problems : All (IsProblem c.known_ids) c.problems = λ k d lt. (h.contents.problems k d lt).among c.known_ids (nothing_unknown k d lt) in
     record {
       step = range;
       lanelet_count = h.lanelet_count;
-      lanelets = subst (λ (ids : List ℕ). All (IsLanelet ids) c.lanelets) h.known h.contents.lanelets;
+      lanelets = subst (λ (ids : List ℕ). All (IsLanelet ids) c.lanelets) h.known_ids h.contents.lanelets;
       different_lanelets = h.different_lanelets;
       obstacle_count = h.obstacle_count;
       obstacles = h.contents.obstacles;
       different_obstacles = h.different_obstacles;
       problem_count = (there_is_one c.problems some, h.problem_count);
-      problems = subst (λ (ids : List ℕ). All (IsProblem ids) c.problems) h.known problems;
+      problems = subst (λ (ids : List ℕ). All (IsProblem ids) c.problems) h.known_ids problems;
       different_problems = h.different_problems;
     }

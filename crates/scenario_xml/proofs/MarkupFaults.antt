@@ -22,7 +22,7 @@ use Rattle.scenario_xml.specs.Goals.{problem}
 use Rattle.scenario_xml.specs.Lanelets.{lanelet}
 use Rattle.scenario_xml.specs.Obstacles.{any_obstacle}
 use Rattle.scenario_xml.specs.ScenarioFaults.{IsMarkupTold}
-use Rattle.scenario_xml.specs.Scenarios.{has_id, new_id, lanelet_step, obstacle_step, problem_step, content_step, known_step, known, contents, tick_length, head_in, root, first_in, unknown_in_problem, none_unknown, whole, scenario_in, shown, document, scenario}
+use Rattle.scenario_xml.specs.Scenarios.{has_id, new_id, lanelet_step, obstacle_step, problem_step, content_step, id_step, known_ids, contents, tick_length, head_in, root, first_in, unknown_in_problem, none_unknown, checked_scenario, scenario_in, shown, document_in, scenario}
 use Rattle.scenario_xml.specs.Versions.{version_in, names_obstacle}
 use Rattle.scenario_xml.specs.declared.contents.Contents.{Contents}
 use Rattle.scenario_xml.specs.declared.fault.Kind.{Kind}
@@ -32,73 +32,74 @@ use Rattle.scenario_xml.specs.declared.fault.ScenarioFault.TheVariants.{Markup, 
 use Rattle.scenario_xml.specs.declared.fault.Wanted.TheVariants as wanted
 use Rattle.scenario_xml.specs.declared.quantity.Quantity.TheVariants.{Step}
 use Rattle.scenario_xml.proofs.OwnFaults.{IsOwn, fine, chain, either, each, own_number_in, own_attribute, own_id, own_any_obstacle, own_lanelet, own_problem}
+use Rattle.scenario_model.specs.declared.limits.TheConstants.{MAX_LANELETS, MAX_OBSTACLES, MAX_PROBLEMS}
 
-own_new_id : {X : Type 0} (what : Kind) (limit : ℕ) (id_of : X → ℕ) (doc : Document) (k : ℕ) (items : List X) → IsOwn (new_id what limit id_of doc k items)
+own_new_id : {X : Type 0} (what : Kind) (limit : ℕ) (id_of : X → ℕ) (document : Document) (k : ℕ) (items : List X) → IsOwn (new_id what limit id_of document k items)
 unfolding new_id
-own_new_id what limit id_of doc k items =
+own_new_id what limit id_of document k items =
     either (leb limit (length items)) _ _ (record { own = λ f e. cc })
-    (chain (id_attribute doc k wanted.Id) _ (own_id doc k wanted.Id) (λ id. either (has_id id_of id items) _ _ (record { own = λ f e. cc }) (fine id)))
+    (chain (id_attribute document k wanted.Id) _ (own_id document k wanted.Id) (λ id. either (has_id id_of id items) _ _ (record { own = λ f e. cc }) (fine id)))
 
-own_lanelet_step : (doc : Document) (k : ℕ) (s : Contents) → IsOwn (lanelet_step doc k s)
+own_lanelet_step : (document : Document) (k : ℕ) (s : Contents) → IsOwn (lanelet_step document k s)
 unfolding lanelet_step
-own_lanelet_step doc k s =
-    chain (new_id kind.Lanelet 4000 (λ (l : Lanelet). l.id) doc k s.lanelets) _ (own_new_id kind.Lanelet 4000 (λ (l : Lanelet). l.id) doc k s.lanelets)
-    (λ id. chain (lanelet doc k id s.known) _ (own_lanelet doc k id s.known) (λ l. fine _))
+own_lanelet_step document k s =
+    chain (new_id kind.Lanelet MAX_LANELETS (λ (l : Lanelet). l.id) document k s.lanelets) _ (own_new_id kind.Lanelet MAX_LANELETS (λ (l : Lanelet). l.id) document k s.lanelets)
+    (λ id. chain (lanelet document k id s.known_ids) _ (own_lanelet document k id s.known_ids) (λ l. fine _))
 
-own_obstacle_step : (doc : Document) (k : ℕ) (s : Contents) → IsOwn (obstacle_step doc k s)
+own_obstacle_step : (document : Document) (k : ℕ) (s : Contents) → IsOwn (obstacle_step document k s)
 unfolding obstacle_step
-own_obstacle_step doc k s =
-    chain (new_id kind.Obstacle 500 (λ (o : Obstacle). o.id) doc k s.obstacles) _ (own_new_id kind.Obstacle 500 (λ (o : Obstacle). o.id) doc k s.obstacles)
-    (λ id. chain (any_obstacle doc k id) _ (own_any_obstacle doc k id) (λ o. fine _))
+own_obstacle_step document k s =
+    chain (new_id kind.Obstacle MAX_OBSTACLES (λ (o : Obstacle). o.id) document k s.obstacles) _ (own_new_id kind.Obstacle MAX_OBSTACLES (λ (o : Obstacle). o.id) document k s.obstacles)
+    (λ id. chain (any_obstacle document k id) _ (own_any_obstacle document k id) (λ o. fine _))
 
-own_problem_step : (doc : Document) (k : ℕ) (s : Contents) → IsOwn (problem_step doc k s)
+own_problem_step : (document : Document) (k : ℕ) (s : Contents) → IsOwn (problem_step document k s)
 unfolding problem_step
-own_problem_step doc k s =
-    chain (new_id kind.Problem 64 (λ (p : Problem). p.id) doc k s.problems) _ (own_new_id kind.Problem 64 (λ (p : Problem). p.id) doc k s.problems)
-    (λ id. chain (problem doc k id) _ (own_problem doc k id) (λ p. fine _))
+own_problem_step document k s =
+    chain (new_id kind.Problem MAX_PROBLEMS (λ (p : Problem). p.id) document k s.problems) _ (own_new_id kind.Problem MAX_PROBLEMS (λ (p : Problem). p.id) document k s.problems)
+    (λ id. chain (problem document k id) _ (own_problem document k id) (λ p. fine _))
 
-own_content_step : (doc : Document) (k : ℕ) (s : Contents) → IsOwn (content_step doc k s)
+own_content_step : (document : Document) (k : ℕ) (s : Contents) → IsOwn (content_step document k s)
 unfolding content_step
-own_content_step doc k s =
-    either (bytes_eq (name_of doc k) (codes "lanelet")) _ _ (own_lanelet_step doc k s)
-    (either (names_obstacle s.version (name_of doc k)) _ _ (own_obstacle_step doc k s)
-    (either (bytes_eq (name_of doc k) (codes "planningProblem")) _ _ (own_problem_step doc k s) (fine s)))
+own_content_step document k s =
+    either (bytes_eq (name_of document k) (codes "lanelet")) _ _ (own_lanelet_step document k s)
+    (either (names_obstacle s.version (name_of document k)) _ _ (own_obstacle_step document k s)
+    (either (bytes_eq (name_of document k) (codes "planningProblem")) _ _ (own_problem_step document k s) (fine s)))
 
-own_known_step : (doc : Document) (k : ℕ) (ids : List ℕ) → IsOwn (known_step doc k ids)
-unfolding known_step
-own_known_step doc k ids = either (bytes_eq (name_of doc k) (codes "lanelet")) _ _ (fine _) (fine ids)
+own_id_step : (document : Document) (k : ℕ) (ids : List ℕ) → IsOwn (id_step document k ids)
+unfolding id_step
+own_id_step document k ids = either (bytes_eq (name_of document k) (codes "lanelet")) _ _ (fine _) (fine ids)
 
-own_contents : (doc : Document) (version : Version) → IsOwn (contents doc version)
-unfolding contents known
-own_contents doc version = chain _ _ (each (known_step doc) (children doc 0) [] (own_known_step doc)) (λ ids. each (content_step doc) (children doc 0) _ (own_content_step doc))
+own_contents : (document : Document) (version : Version) → IsOwn (contents document version)
+unfolding contents known_ids
+own_contents document version = chain _ _ (each (id_step document) (children document 0) [] (own_id_step document)) (λ ids. each (content_step document) (children document 0) _ (own_content_step document))
 
 own_version : (text : List ℕ) → IsOwn (version_in text)
 unfolding version_in
 own_version text = either (bytes_eq text (codes "2020a")) _ _ (fine _) (either (bytes_eq text (codes "2018b")) _ _ (fine _) (record { own = λ f e. cc }))
 
-own_tick : (doc : Document) → IsOwn (tick_length doc)
+own_tick : (document : Document) → IsOwn (tick_length document)
 unfolding tick_length
-own_tick doc = chain (wanted_attribute doc 0 wanted.TimeStepSize) _ (own_attribute doc 0 wanted.TimeStepSize) (own_number_in (place doc 0) Step)
+own_tick document = chain (wanted_attribute document 0 wanted.TimeStepSize) _ (own_attribute document 0 wanted.TimeStepSize) (own_number_in (place document 0) Step)
 
-own_root : (doc : Document) → IsOwn (root doc)
+own_root : (document : Document) → IsOwn (root document)
 unfolding root
-own_root doc =
-    either (bytes_eq (name_of doc 0) (codes "commonRoad")) _ _
-    (chain (wanted_attribute doc 0 wanted.CommonRoadVersion) _ (own_attribute doc 0 wanted.CommonRoadVersion)
-    (λ text. chain (version_in text) (head_in doc) (own_version text) (λ version. chain (tick_length doc) _ (own_tick doc) (λ step. fine _))))
+own_root document =
+    either (bytes_eq (name_of document 0) (codes "commonRoad")) _ _
+    (chain (wanted_attribute document 0 wanted.CommonRoadVersion) _ (own_attribute document 0 wanted.CommonRoadVersion)
+    (λ text. chain (version_in text) (head_in document) (own_version text) (λ version. chain (tick_length document) _ (own_tick document) (λ step. fine _))))
     (record { own = λ f e. cc })
 
 known_or_not : (step : ℤ) (s : Contents) (o : Option ℕ) → IsOwn (none_unknown step s o)
 known_or_not step s (Some id) = record { own = λ f e. cc }
 known_or_not step s None = either (eqb (length s.problems) 0) _ _ (record { own = λ f e. cc }) (fine _)
 
-own_whole : (step : ℤ) (s : Contents) → IsOwn (whole step s)
-unfolding whole
-own_whole step s = known_or_not step s (first_in (unknown_in_problem s.known) s.problems)
+own_whole : (step : ℤ) (s : Contents) → IsOwn (checked_scenario step s)
+unfolding checked_scenario
+own_whole step s = known_or_not step s (first_in (unknown_in_problem s.known_ids) s.problems)
 
-own_scenario : (doc : Document) → IsOwn (scenario_in doc)
+own_scenario : (document : Document) → IsOwn (scenario_in document)
 unfolding scenario_in
-own_scenario doc = chain (root doc) _ (own_root doc) (λ head. chain (contents doc head.version) (whole head.step_micros) (own_contents doc head.version) (own_whole head.step_micros))
+own_scenario document = chain (root document) _ (own_root document) (λ head. chain (contents document head.version) (checked_scenario head.step_micros) (own_contents document head.version) (own_whole head.step_micros))
 
 -- the fault of a document of the markup that holds this one is this one, and not want of memory
 inside : (g m : MarkupFault) → from_markup g ≡ Markup m → (g ≡ m) × (m ≡ inner.NoMemory → ⊥)
@@ -117,7 +118,7 @@ by_markup bytes m (Err g) h e =
     (h ∙ ap (λ (x : MarkupFault). Err x) k.0, k.1)
 
 in_markup : (bytes : List ℕ) (m : MarkupFault) → scenario bytes ≡ Err (Markup m) → IsMarkupTold bytes (Markup m)
-unfolding scenario document
+unfolding scenario document_in
 in_markup bytes m e = by_markup bytes m (markup bytes) refl e
 
 by_fault : (bytes : List ℕ) (f : ScenarioFault) → OnFalse (is_memory f) (scenario bytes ≡ Err f) → IsMarkupTold bytes f

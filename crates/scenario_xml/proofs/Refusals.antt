@@ -24,6 +24,7 @@ use Rattle.scenario_xml.specs.declared.fault.Wanted.TheVariants as wanted
 use Rattle.scenario_xml.proofs.Groups.{found_none, none_found}
 use Rattle.scenario_xml.proofs.ItemSteps.{fresh, added}
 use Rattle.scenario_xml.proofs.Sorts.{Sort, a_lanelet, an_obstacle, a_problem, another, sort_of}
+use Rattle.scenario_model.specs.declared.limits.TheConstants.{MAX_LANELETS, MAX_OBSTACLES, MAX_PROBLEMS}
 
 pub same_fault : {A F : Type 0} (r : Result A F) (e f : F) → r ≡ Err e → r ≡ Err f → e ≡ f
 same_fault r e f h k = cc
@@ -74,73 +75,73 @@ module _ {X : Type 0} (what : Kind) (limit : ℕ) (id_of : X → ℕ) (items : L
   is_told f (same_id id room h one) = rw (lt-leb limit (length items) room, h, has_one id one) refl
   is_told f (in_content id g room h new k) = rw (lt-leb limit (length items) room, h, none_found id_of id items new, k) refl
 
-refused_lanelet : (doc : Document) (k : ℕ) (s : Contents) (f : ScenarioFault) → lanelet_step doc k s ≡ Err f
-    → IsItemRefused kind.Lanelet 4000 (λ (l : Lanelet). l.id) s.lanelets (id_attribute doc k wanted.Id) (λ id. lanelet doc k id s.known) f
+refused_lanelet : (document : Document) (k : ℕ) (s : Contents) (f : ScenarioFault) → lanelet_step document k s ≡ Err f
+    → IsItemRefused kind.Lanelet MAX_LANELETS (λ (l : Lanelet). l.id) s.lanelets (id_attribute document k wanted.Id) (λ id. lanelet document k id s.known_ids) f
 unfolding lanelet_step new_id has_id
-refused_lanelet doc k s f e =
-    refused_by kind.Lanelet 4000 (λ (l : Lanelet). l.id) s.lanelets (id_attribute doc k wanted.Id) (λ id. lanelet doc k id s.known) (λ l. record s { lanelets = s.lanelets ++ l ∷ [] }) f e
+refused_lanelet document k s f e =
+    refused_by kind.Lanelet MAX_LANELETS (λ (l : Lanelet). l.id) s.lanelets (id_attribute document k wanted.Id) (λ id. lanelet document k id s.known_ids) (λ l. record s { lanelets = s.lanelets ++ l ∷ [] }) f e
 
-refused_obstacle : (doc : Document) (k : ℕ) (s : Contents) (f : ScenarioFault) → obstacle_step doc k s ≡ Err f
-    → IsItemRefused kind.Obstacle 500 (λ (o : Obstacle). o.id) s.obstacles (id_attribute doc k wanted.Id) (λ id. any_obstacle doc k id) f
+refused_obstacle : (document : Document) (k : ℕ) (s : Contents) (f : ScenarioFault) → obstacle_step document k s ≡ Err f
+    → IsItemRefused kind.Obstacle MAX_OBSTACLES (λ (o : Obstacle). o.id) s.obstacles (id_attribute document k wanted.Id) (λ id. any_obstacle document k id) f
 unfolding obstacle_step new_id has_id
-refused_obstacle doc k s f e =
-    refused_by kind.Obstacle 500 (λ (o : Obstacle). o.id) s.obstacles (id_attribute doc k wanted.Id) (λ id. any_obstacle doc k id) (λ o. record s { obstacles = s.obstacles ++ o ∷ [] }) f e
+refused_obstacle document k s f e =
+    refused_by kind.Obstacle MAX_OBSTACLES (λ (o : Obstacle). o.id) s.obstacles (id_attribute document k wanted.Id) (λ id. any_obstacle document k id) (λ o. record s { obstacles = s.obstacles ++ o ∷ [] }) f e
 
-refused_problem : (doc : Document) (k : ℕ) (s : Contents) (f : ScenarioFault) → problem_step doc k s ≡ Err f
-    → IsItemRefused kind.Problem 64 (λ (p : Problem). p.id) s.problems (id_attribute doc k wanted.Id) (λ id. problem doc k id) f
+refused_problem : (document : Document) (k : ℕ) (s : Contents) (f : ScenarioFault) → problem_step document k s ≡ Err f
+    → IsItemRefused kind.Problem MAX_PROBLEMS (λ (p : Problem). p.id) s.problems (id_attribute document k wanted.Id) (λ id. problem document k id) f
 unfolding problem_step new_id has_id
-refused_problem doc k s f e =
-    refused_by kind.Problem 64 (λ (p : Problem). p.id) s.problems (id_attribute doc k wanted.Id) (λ id. problem doc k id) (λ p. record s { problems = s.problems ++ p ∷ [] }) f e
+refused_problem document k s f e =
+    refused_by kind.Problem MAX_PROBLEMS (λ (p : Problem). p.id) s.problems (id_attribute document k wanted.Id) (λ id. problem document k id) (λ p. record s { problems = s.problems ++ p ∷ [] }) f e
 
-by_sort : (doc : Document) (k : ℕ) (s : Contents) (f : ScenarioFault) → Sort s.version doc k → content_step doc k s ≡ Err f → IsRefused doc k s f
-by_sort doc k s f (a_lanelet is other third same) e = as_lanelet is (refused_lanelet doc k s f (sym (same s refl) ∙ e))
-by_sort doc k s f (an_obstacle other is third same) e = as_obstacle is (refused_obstacle doc k s f (sym (same s refl) ∙ e))
-by_sort doc k s f (a_problem other third is same) e = as_problem is (refused_problem doc k s f (sym (same s refl) ∙ e))
-by_sort doc k s f (another other third fourth same) e = let read = same s refl in absurd cc
+by_sort : (document : Document) (k : ℕ) (s : Contents) (f : ScenarioFault) → Sort s.version document k → content_step document k s ≡ Err f → IsRefused document k s f
+by_sort document k s f (a_lanelet is other third same) e = as_lanelet is (refused_lanelet document k s f (sym (same s refl) ∙ e))
+by_sort document k s f (an_obstacle other is third same) e = as_obstacle is (refused_obstacle document k s f (sym (same s refl) ∙ e))
+by_sort document k s f (a_problem other third is same) e = as_problem is (refused_problem document k s f (sym (same s refl) ∙ e))
+by_sort document k s f (another other third fourth same) e = let read = same s refl in absurd cc
 
 -- what the definition refuses is refused for one of the reasons
-pub refusal : (doc : Document) (k : ℕ) (s : Contents) (f : ScenarioFault) → content_step doc k s ≡ Err f → IsRefused doc k s f
-refusal doc k s f e = by_sort doc k s f (sort_of s.version doc k) e
+pub refusal : (document : Document) (k : ℕ) (s : Contents) (f : ScenarioFault) → content_step document k s ≡ Err f → IsRefused document k s f
+refusal document k s f e = by_sort document k s f (sort_of s.version document k) e
 
-at_lanelet : (doc : Document) (k : ℕ) (s : Contents) → Sort s.version doc k → is_lanelet doc k ≡ true → content_step doc k s ≡ lanelet_step doc k s
-at_lanelet doc k s (a_lanelet is other third same) h = same s refl
-at_lanelet doc k s (an_obstacle other is third same) h = absurd cc
-at_lanelet doc k s (a_problem other third is same) h = absurd cc
-at_lanelet doc k s (another other third fourth same) h = absurd cc
+at_lanelet : (document : Document) (k : ℕ) (s : Contents) → Sort s.version document k → is_lanelet document k ≡ true → content_step document k s ≡ lanelet_step document k s
+at_lanelet document k s (a_lanelet is other third same) h = same s refl
+at_lanelet document k s (an_obstacle other is third same) h = absurd cc
+at_lanelet document k s (a_problem other third is same) h = absurd cc
+at_lanelet document k s (another other third fourth same) h = absurd cc
 
-at_obstacle : (doc : Document) (k : ℕ) (s : Contents) → Sort s.version doc k → is_obstacle s.version doc k ≡ true → content_step doc k s ≡ obstacle_step doc k s
-at_obstacle doc k s (a_lanelet is other third same) h = absurd cc
-at_obstacle doc k s (an_obstacle other is third same) h = same s refl
-at_obstacle doc k s (a_problem other third is same) h = absurd cc
-at_obstacle doc k s (another other third fourth same) h = absurd cc
+at_obstacle : (document : Document) (k : ℕ) (s : Contents) → Sort s.version document k → is_obstacle s.version document k ≡ true → content_step document k s ≡ obstacle_step document k s
+at_obstacle document k s (a_lanelet is other third same) h = absurd cc
+at_obstacle document k s (an_obstacle other is third same) h = same s refl
+at_obstacle document k s (a_problem other third is same) h = absurd cc
+at_obstacle document k s (another other third fourth same) h = absurd cc
 
-at_problem : (doc : Document) (k : ℕ) (s : Contents) → Sort s.version doc k → is_problem doc k ≡ true → content_step doc k s ≡ problem_step doc k s
-at_problem doc k s (a_lanelet is other third same) h = absurd cc
-at_problem doc k s (an_obstacle other is third same) h = absurd cc
-at_problem doc k s (a_problem other third is same) h = same s refl
-at_problem doc k s (another other third fourth same) h = absurd cc
+at_problem : (document : Document) (k : ℕ) (s : Contents) → Sort s.version document k → is_problem document k ≡ true → content_step document k s ≡ problem_step document k s
+at_problem document k s (a_lanelet is other third same) h = absurd cc
+at_problem document k s (an_obstacle other is third same) h = absurd cc
+at_problem document k s (a_problem other third is same) h = same s refl
+at_problem document k s (another other third fourth same) h = absurd cc
 
-lanelet_told : (doc : Document) (k : ℕ) (s : Contents) (f : ScenarioFault)
-    → IsItemRefused kind.Lanelet 4000 (λ (l : Lanelet). l.id) s.lanelets (id_attribute doc k wanted.Id) (λ id. lanelet doc k id s.known) f → lanelet_step doc k s ≡ Err f
+lanelet_told : (document : Document) (k : ℕ) (s : Contents) (f : ScenarioFault)
+    → IsItemRefused kind.Lanelet MAX_LANELETS (λ (l : Lanelet). l.id) s.lanelets (id_attribute document k wanted.Id) (λ id. lanelet document k id s.known_ids) f → lanelet_step document k s ≡ Err f
 unfolding lanelet_step new_id has_id
-lanelet_told doc k s f h =
-    is_told kind.Lanelet 4000 (λ (l : Lanelet). l.id) s.lanelets (id_attribute doc k wanted.Id) (λ id. lanelet doc k id s.known) (λ l. record s { lanelets = s.lanelets ++ l ∷ [] }) f h
+lanelet_told document k s f h =
+    is_told kind.Lanelet MAX_LANELETS (λ (l : Lanelet). l.id) s.lanelets (id_attribute document k wanted.Id) (λ id. lanelet document k id s.known_ids) (λ l. record s { lanelets = s.lanelets ++ l ∷ [] }) f h
 
-obstacle_told : (doc : Document) (k : ℕ) (s : Contents) (f : ScenarioFault)
-    → IsItemRefused kind.Obstacle 500 (λ (o : Obstacle). o.id) s.obstacles (id_attribute doc k wanted.Id) (λ id. any_obstacle doc k id) f
-    → obstacle_step doc k s ≡ Err f
+obstacle_told : (document : Document) (k : ℕ) (s : Contents) (f : ScenarioFault)
+    → IsItemRefused kind.Obstacle MAX_OBSTACLES (λ (o : Obstacle). o.id) s.obstacles (id_attribute document k wanted.Id) (λ id. any_obstacle document k id) f
+    → obstacle_step document k s ≡ Err f
 unfolding obstacle_step new_id has_id
-obstacle_told doc k s f h =
-    is_told kind.Obstacle 500 (λ (o : Obstacle). o.id) s.obstacles (id_attribute doc k wanted.Id) (λ id. any_obstacle doc k id) (λ o. record s { obstacles = s.obstacles ++ o ∷ [] }) f h
+obstacle_told document k s f h =
+    is_told kind.Obstacle MAX_OBSTACLES (λ (o : Obstacle). o.id) s.obstacles (id_attribute document k wanted.Id) (λ id. any_obstacle document k id) (λ o. record s { obstacles = s.obstacles ++ o ∷ [] }) f h
 
-problem_told : (doc : Document) (k : ℕ) (s : Contents) (f : ScenarioFault)
-    → IsItemRefused kind.Problem 64 (λ (p : Problem). p.id) s.problems (id_attribute doc k wanted.Id) (λ id. problem doc k id) f → problem_step doc k s ≡ Err f
+problem_told : (document : Document) (k : ℕ) (s : Contents) (f : ScenarioFault)
+    → IsItemRefused kind.Problem MAX_PROBLEMS (λ (p : Problem). p.id) s.problems (id_attribute document k wanted.Id) (λ id. problem document k id) f → problem_step document k s ≡ Err f
 unfolding problem_step new_id has_id
-problem_told doc k s f h =
-    is_told kind.Problem 64 (λ (p : Problem). p.id) s.problems (id_attribute doc k wanted.Id) (λ id. problem doc k id) (λ p. record s { problems = s.problems ++ p ∷ [] }) f h
+problem_told document k s f h =
+    is_told kind.Problem MAX_PROBLEMS (λ (p : Problem). p.id) s.problems (id_attribute document k wanted.Id) (λ id. problem document k id) (λ p. record s { problems = s.problems ++ p ∷ [] }) f h
 
 -- what is refused for one of the reasons the definition refuses
-pub is_refused : (doc : Document) (k : ℕ) (s : Contents) (f : ScenarioFault) → IsRefused doc k s f → content_step doc k s ≡ Err f
-is_refused doc k s f (as_lanelet is h) = at_lanelet doc k s (sort_of s.version doc k) is ∙ lanelet_told doc k s f h
-is_refused doc k s f (as_obstacle is h) = at_obstacle doc k s (sort_of s.version doc k) is ∙ obstacle_told doc k s f h
-is_refused doc k s f (as_problem is h) = at_problem doc k s (sort_of s.version doc k) is ∙ problem_told doc k s f h
+pub is_refused : (document : Document) (k : ℕ) (s : Contents) (f : ScenarioFault) → IsRefused document k s f → content_step document k s ≡ Err f
+is_refused document k s f (as_lanelet is h) = at_lanelet document k s (sort_of s.version document k) is ∙ lanelet_told document k s f h
+is_refused document k s f (as_obstacle is h) = at_obstacle document k s (sort_of s.version document k) is ∙ obstacle_told document k s f h
+is_refused document k s f (as_problem is h) = at_problem document k s (sort_of s.version document k) is ∙ problem_told document k s f h

@@ -10,5 +10,5 @@ empty : (source : List ℕ) (nodes : List Node) → length nodes ≡ 0 → bytes
 empty source [] h = refl
 empty source (n ∷ nodes) h = absurd (omega arith)
 
-pub no_root : (doc : Document) → length doc.nodes ≡ 0 → bytes_eq (name_of doc 0) (codes "commonRoad") ≡ false
-no_root doc h = empty doc.source doc.nodes h
+pub no_root : (document : Document) → length document.nodes ≡ 0 → bytes_eq (name_of document 0) (codes "commonRoad") ≡ false
+no_root document h = empty document.source document.nodes h

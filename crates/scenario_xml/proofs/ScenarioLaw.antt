@@ -13,7 +13,7 @@ use Rattle.element_tree.specs.Document.{Document}
 use Rattle.element_tree.specs.Documents.{markup}
 use Rattle.element_tree.specs.Tags.{value_of}
 use Rattle.element_tree.specs.Trees.{name_of, attributes_of, children}
-use Rattle.element_tree.proofs.ContentLaws.{bind_ok, else_ok, then_ok}
+use Rattle.element_tree.proofs.ContentLaws.{bind_ok, else_ok, then_ok, same_value, not_both}
 use Rattle.reading.specs.Reading.{◌>>=◌, Gives}
 use Rattle.scenario_model.specs.Scenario.{lanelet_ids}
 use Rattle.scenario_model.specs.declared.scenario.Scenario.{Scenario}
@@ -23,7 +23,7 @@ use Rattle.scenario_xml.specs.Elements.{place, or_missing, wanted_attribute}
 use Rattle.scenario_xml.specs.Faults.{is_memory}
 use Rattle.scenario_xml.specs.ScenarioFaults.{ids_in, IsRead}
 use Rattle.scenario_xml.specs.ScenarioOf.{AreReadOff, regions_of, IsRegionKnown, IsScenarioOf, IsScenarioIn, IsOnlyScenarioIn, IsNoScenario}
-use Rattle.scenario_xml.specs.Scenarios.{known, contents, tick_length, head_in, root, first_in, unknown_in_problem, none_unknown, whole, scenario_in, shown, document, scenario}
+use Rattle.scenario_xml.specs.Scenarios.{known_ids, contents, tick_length, head_in, root, first_in, unknown_in_problem, none_unknown, checked_scenario, scenario_in, shown, document_in, scenario}
 use Rattle.scenario_xml.specs.Versions.{version_text, version_in}
 use Rattle.scenario_xml.specs.declared.contents.Contents.{Contents}
 use Rattle.scenario_xml.specs.declared.fault.ScenarioFault.{ScenarioFault}
@@ -31,16 +31,15 @@ use Rattle.scenario_xml.specs.declared.fault.ScenarioFault.TheVariants.{WrongRoo
 use Rattle.scenario_xml.specs.declared.fault.Wanted.{Wanted}
 use Rattle.scenario_xml.specs.declared.fault.Wanted.TheVariants as wanted
 use Rattle.scenario_xml.specs.declared.root.Head.{Head}
-use Rattle.scenario_xml.proofs.ItemSteps.{same_value}
 use Rattle.scenario_xml.proofs.KnownAll.{known_is, ids_are}
 use Rattle.scenario_xml.proofs.ReadOff.{is_read, reads_all}
 use Rattle.scenario_xml.proofs.Regions.{found_of, all_known, none_unknown as none_found}
 
 -- the root of a document that is read
-pub record IsRoot (doc : Document) (head : Head) : Type 0 where
-  pub name : name_of doc 0 ≡ codes "commonRoad"
-  pub version : value_of (codes "commonRoadVersion") (attributes_of doc 0) ≡ Some (version_text head.version)
-  pub tick : tick_length doc ≡ Ok head.step_micros
+pub record IsRoot (document : Document) (head : Head) : Type 0 where
+  pub name : name_of document 0 ≡ codes "commonRoad"
+  pub version : value_of (codes "commonRoadVersion") (attributes_of document 0) ≡ Some (version_text head.version)
+  pub tick : tick_length document ≡ Ok head.step_micros
 
 -- the version that a text is, is written so
 version_case : (text : List ℕ) (version : Version) (a b : Bool) → bytes_eq text (codes "2020a") ≡ a → bytes_eq text (codes "2018b") ≡ b → version_in text ≡ Ok version → text ≡ version_text version
@@ -63,121 +62,117 @@ there : {X : Type 0} (what : Wanted) (at : ℕ) (o : Option X) (x : X) → or_mi
 there what at None x e = absurd cc
 there what at (Some y) x e = cc
 
-root_is : (doc : Document) (head : Head) → root doc ≡ Ok head → IsRoot doc head
+root_is : (document : Document) (head : Head) → root document ≡ Ok head → IsRoot document head
 unfolding root wanted_attribute
-root_is doc head e =
-    let named = then_ok (bytes_eq (name_of doc 0) (codes "commonRoad")) WrongRoot _ head e in
-    let text = bind_ok (wanted_attribute doc 0 wanted.CommonRoadVersion) _ head named.1 in
-    let version = bind_ok (version_in text.0) (head_in doc) head text.2 in
-    let step = bind_ok (tick_length doc) _ head version.2 in
-    let found = there wanted.CommonRoadVersion (place doc 0) (value_of (codes "commonRoadVersion") (attributes_of doc 0)) text.0 text.1 in
-    let whole : Head = record { version = version.0; step_micros = step.0 } in
-    subst (λ (h : Head). IsRoot doc h) (same_value (Ok whole) whole head refl step.2) (record {
-      name = (bytes_eq-Decides (name_of doc 0) (codes "commonRoad")).0 named.0;
+root_is document head e =
+    let named = then_ok (bytes_eq (name_of document 0) (codes "commonRoad")) WrongRoot _ head e in
+    let text = bind_ok (wanted_attribute document 0 wanted.CommonRoadVersion) _ head named.1 in
+    let version = bind_ok (version_in text.0) (head_in document) head text.2 in
+    let step = bind_ok (tick_length document) _ head version.2 in
+    let found = there wanted.CommonRoadVersion (place document 0) (value_of (codes "commonRoadVersion") (attributes_of document 0)) text.0 text.1 in
+    let head_read : Head = record { version = version.0; step_micros = step.0 } in
+    subst (λ (h : Head). IsRoot document h) (same_value (Ok head_read) head_read head refl step.2) (record {
+      name = (bytes_eq-Decides (name_of document 0) (codes "commonRoad")).0 named.0;
       version = found ∙ ap (λ (v : List ℕ). Some v) (version_is text.0 version.0 version.1);
       tick = step.1;
     })
 
-root_reads : (doc : Document) (head : Head) → IsRoot doc head → root doc ≡ Ok head
+root_reads : (document : Document) (head : Head) → IsRoot document head → root document ≡ Ok head
 unfolding root wanted_attribute
-root_reads doc head h =
-    let named : bytes_eq (name_of doc 0) (codes "commonRoad") ≡ true = (bytes_eq-Decides (name_of doc 0) (codes "commonRoad")).1 h.name in
-    let step : tick_length doc ≡ Ok head.step_micros = h.tick in
+root_reads document head h =
+    let named : bytes_eq (name_of document 0) (codes "commonRoad") ≡ true = (bytes_eq-Decides (name_of document 0) (codes "commonRoad")).1 h.name in
+    let step : tick_length document ≡ Ok head.step_micros = h.tick in
     rw (named, h.version, version_reads head.version, step) refl
 
 -- all children of the root
-pub contents_are : (doc : Document) (version : Version) (s : Contents) → contents doc version ≡ Ok s → IsRead doc version (children doc 0) s
+pub contents_are : (document : Document) (version : Version) (s : Contents) → contents document version ≡ Ok s → IsRead document version (children document 0) s
 unfolding contents
-contents_are doc version s e =
-    let ids = bind_ok (known doc) _ s e in
-    let same = same_value (known doc) ids.0 (ids_in doc) ids.1 (known_is doc) in
-    is_read doc version (children doc 0) s (rw same at ids.2)
+contents_are document version s e =
+    let ids = bind_ok (known_ids document) _ s e in
+    let same = same_value (known_ids document) ids.0 (ids_in document) ids.1 (known_is document) in
+    is_read document version (children document 0) s (rw same at ids.2)
 
 abbrev head_of : Scenario → Head
 head_of s = record { version = s.version; step_micros = s.step_micros }
 
-contents_read : (doc : Document) (s : Scenario) → AreReadOff s.version doc (ids_in doc) (children doc 0) s.lanelets s.obstacles s.problems
-    → contents doc s.version ≡ Ok (record { version = s.version; known = ids_in doc; lanelets = s.lanelets; obstacles = s.obstacles; problems = s.problems })
+contents_read : (document : Document) (s : Scenario) → AreReadOff s.version document (ids_in document) (children document 0) s.lanelets s.obstacles s.problems
+    → contents document s.version ≡ Ok (record { version = s.version; known_ids = ids_in document; lanelets = s.lanelets; obstacles = s.obstacles; problems = s.problems })
 unfolding contents
-contents_read doc s h = rw (known_is doc) (reads_all doc s.version (children doc 0) s.lanelets s.obstacles s.problems h)
+contents_read document s h = rw (known_is document) (reads_all document s.version (children document 0) s.lanelets s.obstacles s.problems h)
 
 abbrev scenario_of : ℤ → Contents → Scenario
 scenario_of step s = record { version = s.version; step_micros = step; lanelets = s.lanelets; obstacles = s.obstacles; problems = s.problems }
 
 -- the whole
 record IsWhole (step : ℤ) (s : Contents) (t : Scenario) : Type 0 where
-  pub known : All (IsRegionKnown s.known) (regions_of s.problems)
+  pub regions_known : All (IsRegionKnown s.known_ids) (regions_of s.problems)
   pub some : 1 ≤ length s.problems
   pub is : t ≡ scenario_of step s
 
-whole_case : (step : ℤ) (s : Contents) (t : Scenario) (o : Option ℕ) → first_in (unknown_in_problem s.known) s.problems ≡ o → none_unknown step s o ≡ Ok t → IsWhole step s t
+whole_case : (step : ℤ) (s : Contents) (t : Scenario) (o : Option ℕ) → first_in (unknown_in_problem s.known_ids) s.problems ≡ o → none_unknown step s o ≡ Ok t → IsWhole step s t
 whole_case step s t (Some id) h e = absurd cc
 whole_case step s t None h e =
     let k = else_ok (eqb (length s.problems) 0) NoProblem _ t e in
     let filled = eqb-false (length s.problems) 0 k.0 in
-    record { known = all_known s.known (regions_of s.problems) (sym (found_of s.known s.problems) ∙ h); some = omega (arith, filled); is = sym (same_value _ _ t refl k.1) }
+    record { regions_known = all_known s.known_ids (regions_of s.problems) (sym (found_of s.known_ids s.problems) ∙ h); some = omega (arith, filled); is = sym (same_value _ _ t refl k.1) }
 
-whole_is : (step : ℤ) (s : Contents) (t : Scenario) → whole step s ≡ Ok t → IsWhole step s t
-unfolding whole
-whole_is step s t e = whole_case step s t (first_in (unknown_in_problem s.known) s.problems) refl e
+whole_is : (step : ℤ) (s : Contents) (t : Scenario) → checked_scenario step s ≡ Ok t → IsWhole step s t
+unfolding checked_scenario
+whole_is step s t e = whole_case step s t (first_in (unknown_in_problem s.known_ids) s.problems) refl e
 
-whole_reads : (step : ℤ) (s : Contents) → All (IsRegionKnown s.known) (regions_of s.problems) → 1 ≤ length s.problems → whole step s ≡ Ok (scenario_of step s)
-unfolding whole
+whole_reads : (step : ℤ) (s : Contents) → All (IsRegionKnown s.known_ids) (regions_of s.problems) → 1 ≤ length s.problems → checked_scenario step s ≡ Ok (scenario_of step s)
+unfolding checked_scenario
 whole_reads step s h some =
-    let none = found_of s.known s.problems ∙ none_found s.known (regions_of s.problems) h in
+    let none = found_of s.known_ids s.problems ∙ none_found s.known_ids (regions_of s.problems) h in
     rw (none, ne_eqb (length s.problems) 0 (λ e. absurd (omega (arith, e, some)))) refl
 
 -- the scenario of a document
-document_read : (doc : Document) (t : Scenario) → scenario_in doc ≡ Ok t → IsScenarioOf doc t
+document_read : (document : Document) (t : Scenario) → scenario_in document ≡ Ok t → IsScenarioOf document t
 unfolding scenario_in
-document_read doc t e =
-    let top = bind_ok (root doc) _ t e in
-    let held = bind_ok (contents doc top.0.version) (whole top.0.step_micros) t top.2 in
+document_read document t e =
+    let top = bind_ok (root document) _ t e in
+    let held = bind_ok (contents document top.0.version) (checked_scenario top.0.step_micros) t top.2 in
     let s = held.0 in
-    let items = contents_are doc top.0.version s held.1 in
-    let head = root_is doc top.0 top.1 in
-    let read = subst (λ (v : Version). AreReadOff v doc (ids_in doc) (children doc 0) s.lanelets s.obstacles s.problems) (sym items.same_version) items.items in
+    let items = contents_are document top.0.version s held.1 in
+    let head = root_is document top.0 top.1 in
+    let read = subst (λ (v : Version). AreReadOff v document (ids_in document) (children document 0) s.lanelets s.obstacles s.problems) (sym items.same_version) items.items in
     let all = whole_is top.0.step_micros s t held.2 in
-    let ids = ids_are doc (ids_in doc) s.lanelets items.items.lanelets.read in
-    let told = items.known ∙ ids in
-    let P : Scenario → Type 0 = λ u. IsScenarioOf doc u in
+    let ids = ids_are document (ids_in document) s.lanelets items.items.lanelets.read in
+    let told = items.known_ids ∙ ids in
+    let P : Scenario → Type 0 = λ u. IsScenarioOf document u in
     subst P (sym all.is) (record {
       root = head.name;
-      version = subst (λ (v : Version). value_of (codes "commonRoadVersion") (attributes_of doc 0) ≡ Some (version_text v)) (sym items.same_version) head.version;
+      version = subst (λ (v : Version). value_of (codes "commonRoadVersion") (attributes_of document 0) ≡ Some (version_text v)) (sym items.same_version) head.version;
       step = head.tick;
       children = rw ids at read;
       some = all.some;
-      known = rw told at all.known;
+      regions_known = rw told at all.regions_known;
     })
 
-document_reads : (doc : Document) (t : Scenario) → IsScenarioOf doc t → scenario_in doc ≡ Ok t
+document_reads : (document : Document) (t : Scenario) → IsScenarioOf document t → scenario_in document ≡ Ok t
 unfolding scenario_in
-document_reads doc t h =
-    let ids : ids_in doc ≡ lanelet_ids t = ids_are doc (lanelet_ids t) t.lanelets h.children.lanelets.read in
-    let s : Contents = record { version = t.version; known = ids_in doc; lanelets = t.lanelets; obstacles = t.obstacles; problems = t.problems } in
-    let head = root_reads doc (head_of t) (record { name = h.root; version = h.version; tick = h.step }) in
-    let held = contents_read doc t (subst (λ (known : List ℕ). AreReadOff t.version doc known (children doc 0) t.lanelets t.obstacles t.problems) (sym ids) h.children) in
-    let all = whole_reads t.step_micros s (subst (λ (known : List ℕ). All (IsRegionKnown known) (regions_of t.problems)) (sym ids) h.known) h.some in
+document_reads document t h =
+    let ids : ids_in document ≡ lanelet_ids t = ids_are document (lanelet_ids t) t.lanelets h.children.lanelets.read in
+    let s : Contents = record { version = t.version; known_ids = ids_in document; lanelets = t.lanelets; obstacles = t.obstacles; problems = t.problems } in
+    let head = root_reads document (head_of t) (record { name = h.root; version = h.version; tick = h.step }) in
+    let held = contents_read document t (subst (λ (known_ids : List ℕ). AreReadOff t.version document known_ids (children document 0) t.lanelets t.obstacles t.problems) (sym ids) h.children) in
+    let all = whole_reads t.step_micros s (subst (λ (known_ids : List ℕ). All (IsRegionKnown known_ids) (regions_of t.problems)) (sym ids) h.regions_known) h.some in
     rw (head, held) all
 
-shown_is : (bytes : List ℕ) (r : Result (List Node) MarkupFault) (doc : Document) → shown bytes r ≡ Ok doc → (nodes : List Node) × (r ≡ Ok nodes) × (doc ≡ record { source = bytes; nodes = nodes })
-shown_is bytes (Ok nodes) doc e = (nodes, refl, sym (same_value {F = ScenarioFault} (Ok (record { source = bytes; nodes = nodes })) _ doc refl e))
-shown_is bytes (Err f) doc e = absurd cc
+shown_is : (bytes : List ℕ) (r : Result (List Node) MarkupFault) (document : Document) → shown bytes r ≡ Ok document → (nodes : List Node) × (r ≡ Ok nodes) × (document ≡ record { source = bytes; nodes = nodes })
+shown_is bytes (Ok nodes) document e = (nodes, refl, sym (same_value {F = ScenarioFault} (Ok (record { source = bytes; nodes = nodes })) _ document refl e))
+shown_is bytes (Err f) document e = absurd cc
 
 pub scenario_read : (bytes : List ℕ) (s : Scenario) → scenario bytes ≡ Ok s → IsScenarioIn bytes s
-unfolding scenario document
+unfolding scenario document_in
 scenario_read bytes s e =
-    let tree = bind_ok (document bytes) scenario_in s e in
+    let tree = bind_ok (document_in bytes) scenario_in s e in
     let nodes = shown_is bytes (markup bytes) tree.0 tree.1 in
-    record { nodes = nodes.0; document = nodes.1; scenario = subst (λ (doc : Document). IsScenarioOf doc s) nodes.2 (document_read tree.0 s tree.2) }
+    record { nodes = nodes.0; document = nodes.1; scenario = subst (λ (document : Document). IsScenarioOf document s) nodes.2 (document_read tree.0 s tree.2) }
 
 pub scenario_accepted : (bytes : List ℕ) (s : Scenario) → IsScenarioIn bytes s → scenario bytes ≡ Ok s
-unfolding scenario document
+unfolding scenario document_in
 scenario_accepted bytes s h = rw h.document (document_reads (record { source = bytes; nodes = h.nodes }) s h.scenario)
-
-not_both : (r : Result Scenario ScenarioFault) (s : Scenario) (f : ScenarioFault) → r ≡ Ok s → r ≡ Err f → ⊥
-not_both (Ok x) s f e h = absurd cc
-not_both (Err d) s f e h = absurd cc
 
 no_scenario : (bytes : List ℕ) (f : ScenarioFault) (b : Bool) → OnFalse b (scenario bytes ≡ Err f) → OnFalse b (IsNoScenario bytes)
 no_scenario bytes f true h = tt

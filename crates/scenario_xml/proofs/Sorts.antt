@@ -16,15 +16,15 @@ use Rattle.scenario_xml.specs.declared.contents.Contents.{Contents}
 abbrev pub IsReadAs : Version → (Contents → Type 0) → Type 0
 IsReadAs version P = (s : Contents) → s.version ≡ version → P s
 
-pub data Sort (version : Version) (doc : Document) (k : ℕ) : Type 0 where
-  a_lanelet : is_lanelet doc k ≡ true → is_obstacle version doc k ≡ false → is_problem doc k ≡ false
-      → IsReadAs version (λ s. content_step doc k s ≡ lanelet_step doc k s) → Sort version doc k
-  an_obstacle : is_lanelet doc k ≡ false → is_obstacle version doc k ≡ true → is_problem doc k ≡ false
-      → IsReadAs version (λ s. content_step doc k s ≡ obstacle_step doc k s) → Sort version doc k
-  a_problem : is_lanelet doc k ≡ false → is_obstacle version doc k ≡ false → is_problem doc k ≡ true
-      → IsReadAs version (λ s. content_step doc k s ≡ problem_step doc k s) → Sort version doc k
-  another : is_lanelet doc k ≡ false → is_obstacle version doc k ≡ false → is_problem doc k ≡ false
-      → IsReadAs version (λ s. content_step doc k s ≡ Ok s) → Sort version doc k
+pub data Sort (version : Version) (document : Document) (k : ℕ) : Type 0 where
+  a_lanelet : is_lanelet document k ≡ true → is_obstacle version document k ≡ false → is_problem document k ≡ false
+      → IsReadAs version (λ s. content_step document k s ≡ lanelet_step document k s) → Sort version document k
+  an_obstacle : is_lanelet document k ≡ false → is_obstacle version document k ≡ true → is_problem document k ≡ false
+      → IsReadAs version (λ s. content_step document k s ≡ obstacle_step document k s) → Sort version document k
+  a_problem : is_lanelet document k ≡ false → is_obstacle version document k ≡ false → is_problem document k ≡ true
+      → IsReadAs version (λ s. content_step document k s ≡ problem_step document k s) → Sort version document k
+  another : is_lanelet document k ≡ false → is_obstacle version document k ≡ false → is_problem document k ≡ false
+      → IsReadAs version (λ s. content_step document k s ≡ Ok s) → Sort version document k
 
 -- an element with one name has no other
 other_name : (name one other : List ℕ) → bytes_eq name one ≡ true → bytes_eq one other ≡ false → bytes_eq name other ≡ false
@@ -44,17 +44,17 @@ unfolding names_obstacle
 problem_is_none V2020a = refl
 problem_is_none V2018b = refl
 
-by_name : (version : Version) (doc : Document) (k : ℕ) (a b c : Bool) → is_lanelet doc k ≡ a → is_obstacle version doc k ≡ b → is_problem doc k ≡ c → Sort version doc k
+by_name : (version : Version) (document : Document) (k : ℕ) (a b c : Bool) → is_lanelet document k ≡ a → is_obstacle version document k ≡ b → is_problem document k ≡ c → Sort version document k
 unfolding is_lanelet is_problem content_step
-by_name version doc k true b c e f g =
-    a_lanelet e (no_obstacle version (name_of doc k) (codes "lanelet") e (lanelet_is_none version))
-    (other_name (name_of doc k) (codes "lanelet") (codes "planningProblem") e refl) (λ s same. rw e refl)
-by_name version doc k false true true e f g =
-    let other = no_obstacle version (name_of doc k) (codes "planningProblem") g (problem_is_none version) in
+by_name version document k true b c e f g =
+    a_lanelet e (no_obstacle version (name_of document k) (codes "lanelet") e (lanelet_is_none version))
+    (other_name (name_of document k) (codes "lanelet") (codes "planningProblem") e refl) (λ s same. rw e refl)
+by_name version document k false true true e f g =
+    let other = no_obstacle version (name_of document k) (codes "planningProblem") g (problem_is_none version) in
     absurd cc
-by_name version doc k false true false e f g = an_obstacle e f g (λ s same. rw (e, same, f) refl)
-by_name version doc k false false true e f g = a_problem e f g (λ s same. rw (e, same, f, g) refl)
-by_name version doc k false false false e f g = another e f g (λ s same. rw (e, same, f, g) refl)
+by_name version document k false true false e f g = an_obstacle e f g (λ s same. rw (e, same, f) refl)
+by_name version document k false false true e f g = a_problem e f g (λ s same. rw (e, same, f, g) refl)
+by_name version document k false false false e f g = another e f g (λ s same. rw (e, same, f, g) refl)
 
-pub sort_of : (version : Version) (doc : Document) (k : ℕ) → Sort version doc k
-sort_of version doc k = by_name version doc k (is_lanelet doc k) (is_obstacle version doc k) (is_problem doc k) refl refl refl
+pub sort_of : (version : Version) (document : Document) (k : ℕ) → Sort version document k
+sort_of version document k = by_name version document k (is_lanelet document k) (is_obstacle version document k) (is_problem document k) refl refl refl

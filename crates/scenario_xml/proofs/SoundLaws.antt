@@ -1,10 +1,10 @@
 -- Goals and problems that are well formed but for their references.
-use Rattle.std.proofs.Common.{◌≡◌, ℕ, ◌<◌, ◌≤◌, ◌^◌, Bool, true, false, cond, eqb, List, [], ◌∷◌, ◌++◌, length, length-append, Option, Some, None, refl, sym, arith, unsigned_abs}
+use Rattle.std.proofs.Common.{◌≡◌, ℕ, ◌<◌, ◌≤◌, Bool, true, false, cond, eqb, List, [], ◌∷◌, ◌++◌, length, length-append, Option, Some, None, refl, sym, arith, unsigned_abs}
 use Rattle.std.specs.Prelude.{All, IfSome, filter}
 use Rattle.std.proofs.lemmas.Bool.{eqb-true}
 use Rattle.std.proofs.lemmas.List.Elements.{All-cons, All-push}
 use Rattle.std.proofs.lemmas.List.Folds.{Any-from_list_any}
-use Rattle.scenario_model.specs.Scenario.{IsKnown, IsShape, IsPose}
+use Rattle.scenario_model.specs.Scenario.{IsSpan, IsKnown, IsShape, IsPose}
 use Rattle.scenario_model.specs.declared.obstacle.Shape.{Shape}
 use Rattle.scenario_model.specs.declared.problem.Goal.{Goal}
 use Rattle.scenario_model.specs.declared.problem.Problem.{Problem}
@@ -16,6 +16,7 @@ use Rattle.scenario_xml.specs.Scenarios.{or_else, first_in, unknown_in_region, u
 use Rattle.scenario_xml.specs.declared.goal.GoalsSoFar.{GoalsSoFar}
 use Rattle.scenario_xml.specs.declared.region.RegionsSoFar.{RegionsSoFar}
 use Rattle.scenario_xml.specs.Sound.{IsSoundRegion, IsSoundGoal, IsSoundProblem, AreRegions, AreGoals}
+use Rattle.scenario_model.specs.declared.limits.TheConstants.{MAX_GOALS, MAX_REGIONS, PAST_IDS, MAX_HEADING, MAX_SPEED, MAX_TICK}
 
 pub is_one : (ids : List ℕ) (id : ℕ) → is_known ids id ≡ true → IsKnown ids id
 unfolding is_known
@@ -43,9 +44,9 @@ unfolding first_in
 none_found f [] e = λ k d lt. absurd (omega arith)
 none_found f (x ∷ xs) e = none_at f x xs (f x) refl (none_found f xs) e
 
-pub sound_goal : (goal : Goal) → goal.first_tick ≤ 10 ^ 6 → goal.last_tick ≤ 10 ^ 6 → length goal.regions ≤ 64 → All IsSoundRegion goal.regions
-    → IfSome goal.heading (λ (span : Span). (unsigned_abs span.low ≤ 10 ^ 9) × (unsigned_abs span.high ≤ 10 ^ 9))
-    → IfSome goal.speed (λ (span : Span). (unsigned_abs span.low ≤ 10 ^ 6) × (unsigned_abs span.high ≤ 10 ^ 6))
+pub sound_goal : (goal : Goal) → goal.first_tick ≤ MAX_TICK → goal.last_tick ≤ MAX_TICK → length goal.regions ≤ MAX_REGIONS → All IsSoundRegion goal.regions
+    → IfSome goal.heading (IsSpan MAX_HEADING)
+    → IfSome goal.speed (IsSpan MAX_SPEED)
     → IsSoundGoal goal
 sound_goal goal first last few regions heading speed = record {
   among = λ ids e. record {
@@ -58,7 +59,7 @@ sound_goal goal first last few regions heading speed = record {
   };
 }
 
-pub sound_problem : (problem : Problem) → problem.id < 10 ^ 18 → IsPose problem.start → 1 ≤ length problem.goals → length problem.goals ≤ 64 → All IsSoundGoal problem.goals → IsSoundProblem problem
+pub sound_problem : (problem : Problem) → problem.id < PAST_IDS → IsPose problem.start → 1 ≤ length problem.goals → length problem.goals ≤ MAX_GOALS → All IsSoundGoal problem.goals → IsSoundProblem problem
 sound_problem problem id start some few goals = record {
   among = λ ids e. record {
     id = id;
@@ -77,13 +78,13 @@ pub only_known : (ids xs : List ℕ) → All (IsKnown ids) (filter (is_known ids
 only_known ids [] = λ k d lt. absurd (omega arith)
 only_known ids (x ∷ xs) = kept ids x (filter (is_known ids) xs) (is_known ids x) refl (only_known ids xs)
 
-pub regions_more : (s : RegionsSoFar) (region : Region) → AreRegions s → IsSoundRegion region → length s.regions < 64 → AreRegions (record s { regions = s.regions ++ region ∷ [] })
+pub regions_more : (s : RegionsSoFar) (region : Region) → AreRegions s → IsSoundRegion region → length s.regions < MAX_REGIONS → AreRegions (record s { regions = s.regions ++ region ∷ [] })
 regions_more s region h sound few = record {
   few = omega (arith, few, length-append s.regions (region ∷ []));
   regions = All-push IsSoundRegion s.regions region h.regions sound;
 }
 
-pub goals_more : (s : GoalsSoFar) (goal : Goal) → AreGoals s → IsSoundGoal goal → length s.goals < 64 → AreGoals (record s { goals = s.goals ++ goal ∷ [] })
+pub goals_more : (s : GoalsSoFar) (goal : Goal) → AreGoals s → IsSoundGoal goal → length s.goals < MAX_GOALS → AreGoals (record s { goals = s.goals ++ goal ∷ [] })
 goals_more s goal h sound few = record {
   few = omega (arith, few, length-append s.goals (goal ∷ []));
   goals = All-push IsSoundGoal s.goals goal h.goals sound;

@@ -1,4 +1,5 @@
--- What is read off an element: its children and attributes by their names, numbers and ids (CommonRoad XML 2020a).
+-- What is read off an element: its children and attributes by their names, numbers and ids
+-- (CommonRoad XML 2020a and 2018b).
 use Rattle.std.specs.Prelude.{ℕ, List, ℤ, pos, find, Option, Some, None, Result, Ok, Err}
 use Rattle.std.specs.Str.{bytes_eq}
 use Rattle.element_tree.specs.Document.{Document}
@@ -15,11 +16,11 @@ use Rattle.scenario_xml.specs.declared.quantity.Quantity.{Quantity}
 
 -- the place of element k
 abbrev pub place : Document → ℕ → ℕ
-place doc k = (node_of doc k).place
+place document k = (node_of document k).place
 
 -- the first child of a name
 unfoldable pub child : Document → ℕ → List ℕ → Option ℕ
-child doc k name = find (λ c. bytes_eq (name_of doc c) name) (children doc k)
+child document k name = find (λ c. bytes_eq (name_of document c) name) (children document k)
 
 abbrev pub or_missing : {X : Type 0} → Wanted → ℕ → Option X → Result X ScenarioFault
 or_missing what at None = Err (Missing what at)
@@ -27,11 +28,12 @@ or_missing what at (Some x) = Ok x
 
 -- a child that has to be there
 unfoldable pub wanted_child : Document → ℕ → Wanted → Result ℕ ScenarioFault
-wanted_child doc k what = or_missing what (place doc k) (child doc k (word what))
+wanted_child document k what = or_missing what (place document k) (child document k (word what))
 
 -- an attribute that has to be there
 unfoldable pub wanted_attribute : Document → ℕ → Wanted → Result (List ℕ) ScenarioFault
-wanted_attribute doc k what = or_missing what (place doc k) (value_of (word what) (attributes_of doc k))
+wanted_attribute document k what =
+    or_missing what (place document k) (value_of (word what) (attributes_of document k))
 
 abbrev pub some_number : ℕ → Quantity → Option (List ℕ) → Result ℤ ScenarioFault
 some_number at quantity None = Err (BadNumber at)
@@ -39,32 +41,33 @@ some_number at quantity (Some text) = number_in at quantity text
 
 -- the number that element k holds
 unfoldable pub number : Document → ℕ → Quantity → Result ℤ ScenarioFault
-number doc k quantity = some_number (place doc k) quantity (text_of doc k)
+number document k quantity = some_number (place document k) quantity (text_of document k)
 
 -- the number in a child that has to be there
 unfoldable pub wanted_number : Document → ℕ → Wanted → Quantity → Result ℤ ScenarioFault
-wanted_number doc k what quantity = wanted_child doc k what >>= λ c. number doc c quantity
+wanted_number document k what quantity =
+    wanted_child document k what >>= λ c. number document c quantity
 
 abbrev pub number_or_zero : Document → Quantity → Option ℕ → Result ℤ ScenarioFault
-number_or_zero doc quantity None = Ok (pos 0)
-number_or_zero doc quantity (Some c) = number doc c quantity
+number_or_zero document quantity None = Ok (pos 0)
+number_or_zero document quantity (Some c) = number document c quantity
 
 -- the number in a child that may be absent, which then counts as 0
 unfoldable pub optional_number : Document → ℕ → List ℕ → Quantity → Result ℤ ScenarioFault
-optional_number doc k name quantity = number_or_zero doc quantity (child doc k name)
+optional_number document k name quantity = number_or_zero document quantity (child document k name)
 
 -- the number that stands in an `exact` in element k
 abbrev pub exact : Document → ℕ → Quantity → Result ℤ ScenarioFault
-exact doc k quantity = wanted_number doc k Exact quantity
+exact document k quantity = wanted_number document k Exact quantity
 
 abbrev pub exact_or_zero : Document → Quantity → Option ℕ → Result ℤ ScenarioFault
-exact_or_zero doc quantity None = Ok (pos 0)
-exact_or_zero doc quantity (Some c) = exact doc c quantity
+exact_or_zero document quantity None = Ok (pos 0)
+exact_or_zero document quantity (Some c) = exact document c quantity
 
 -- the exact number of a child that may be absent, which then counts as 0
 unfoldable pub optional_exact : Document → ℕ → List ℕ → Quantity → Result ℤ ScenarioFault
-optional_exact doc k name quantity = exact_or_zero doc quantity (child doc k name)
+optional_exact document k name quantity = exact_or_zero document quantity (child document k name)
 
 -- an attribute that is an id
 unfoldable pub id_attribute : Document → ℕ → Wanted → Result ℕ ScenarioFault
-id_attribute doc k what = wanted_attribute doc k what >>= id_in (place doc k)
+id_attribute document k what = wanted_attribute document k what >>= id_in (place document k)

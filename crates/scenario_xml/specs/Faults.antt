@@ -1,4 +1,4 @@
--- Faults of a scenario, and the names of what is looked for (CommonRoad XML 2020a).
+-- Faults of a scenario, and the names of what is looked for (CommonRoad XML 2020a and 2018b).
 use Rattle.std.specs.Prelude.{ℕ, Bool, true, false, List, codes}
 use Rattle.element_tree.specs.declared.fault.MarkupFault.{MarkupFault}
 use Rattle.element_tree.specs.declared.fault.MarkupFault.TheVariants as markup

@@ -2,7 +2,6 @@ pub mod Faults
 pub mod Versions
 pub mod Numbers
 pub mod Elements
-pub mod Children
 pub mod Shapes
 pub mod States
 pub mod Goals

@@ -1,5 +1,6 @@
 -- Obstacles (CommonRoad XML 2020a and 2018b).
-use Rattle.std.specs.Prelude.{ℕ, Bool, true, false, List, [], ◌∷◌, codes, Option, Some, None, Result, Ok, Err, if◌then◌else◌}
+use Rattle.std.specs.Prelude.{ℕ, Bool, true, false, List, [], ◌∷◌, codes, Option, Some, None}
+use Rattle.std.specs.Prelude.{Result, Ok, Err, if◌then◌else◌}
 use Rattle.std.specs.Str.{bytes_eq}
 use Rattle.element_tree.specs.Document.{Document}
 use Rattle.element_tree.specs.Trees.{name_of, text_of}
@@ -15,26 +16,27 @@ use Rattle.scenario_xml.specs.declared.fault.ScenarioFault.TheVariants.{Unsuppor
 use Rattle.scenario_xml.specs.declared.fault.Wanted.TheVariants as wanted
 
 -- the shapes of obstacle k, which has an id
-unfoldable pub form : Document → ℕ → ℕ → Result (List Shape) ScenarioFault
-form doc k id = wanted_child doc k wanted.Shape >>= λ s. shapes doc s id
+unfoldable pub obstacle_shapes : Document → ℕ → ℕ → Result (List Shape) ScenarioFault
+obstacle_shapes document k id = wanted_child document k wanted.Shape >>= λ s. shapes document s id
 
 -- where an obstacle is: one state where it stands
-unfoldable pub course : Document → ℕ → Bool → Result (List Pose) ScenarioFault
-course doc k moving =
-    wanted_child doc k wanted.InitialState >>= λ i.
-    pose doc i moving >>= λ first.
-    if moving then states doc k first else Ok (first ∷ [])
+unfoldable pub obstacle_states : Document → ℕ → Bool → Result (List Pose) ScenarioFault
+obstacle_states document k moving =
+    wanted_child document k wanted.InitialState >>= λ i.
+    pose document i moving >>= λ first.
+    if moving then states document k first else Ok (first ∷ [])
 
 abbrev pub obstacle_unless : Document → ℕ → ℕ → Bool → Option ℕ → Result Obstacle ScenarioFault
-obstacle_unless doc k id moving (Some c) = Err (Unsupported (place doc c))
-obstacle_unless doc k id moving None =
-    form doc k id >>= λ all.
-    course doc k moving >>= λ way.
+obstacle_unless document k id moving (Some c) = Err (Unsupported (place document c))
+obstacle_unless document k id moving None =
+    obstacle_shapes document k id >>= λ all.
+    obstacle_states document k moving >>= λ way.
     Ok (record { id = id; moving = moving; shapes = all; states = way })
 
 -- an obstacle with an id, which moves or stands
 unfoldable pub obstacle : Document → ℕ → ℕ → Bool → Result Obstacle ScenarioFault
-obstacle doc k id moving = obstacle_unless doc k id moving (child doc k (codes "occupancySet"))
+obstacle document k id moving =
+    obstacle_unless document k id moving (child document k (codes "occupancySet"))
 
 abbrev pub moves_as : ℕ → Option (List ℕ) → Result Bool ScenarioFault
 moves_as at None = Err (Unsupported at)
@@ -45,15 +47,17 @@ moves_as at (Some text) =
 
 -- whether an `obstacle` moves, by its `role`
 unfoldable pub role : Document → ℕ → Result Bool ScenarioFault
-role doc k = wanted_child doc k wanted.Role >>= λ r. moves_as (place doc r) (text_of doc r)
+role document k =
+    wanted_child document k wanted.Role >>= λ r. moves_as (place document r) (text_of document r)
 
--- whether an obstacle moves: `dynamicObstacle` does, `staticObstacle` does not, and `obstacle` by its role
+-- whether an obstacle moves: `dynamicObstacle` does, `staticObstacle` does not, and `obstacle` by
+-- its role
 unfoldable pub moving : Document → ℕ → Result Bool ScenarioFault
-moving doc k =
-    if bytes_eq (name_of doc k) (codes "staticObstacle") then Ok false
-    else if bytes_eq (name_of doc k) (codes "dynamicObstacle") then Ok true
-    else role doc k
+moving document k =
+    if bytes_eq (name_of document k) (codes "staticObstacle") then Ok false
+    else if bytes_eq (name_of document k) (codes "dynamicObstacle") then Ok true
+    else role document k
 
 -- an obstacle of any of these names, with an id
 unfoldable pub any_obstacle : Document → ℕ → ℕ → Result Obstacle ScenarioFault
-any_obstacle doc k id = moving doc k >>= obstacle doc k id
+any_obstacle document k id = moving document k >>= obstacle document k id

@@ -1,5 +1,7 @@
--- The versions of a document, 2020a and 2018b of CommonRoad XML, and which children of the root are obstacles in each.
-use Rattle.std.specs.Prelude.{ℕ, Bool, true, false, ◌&&◌, ◌||◌, List, codes, Result, Ok, Err, if◌then◌else◌}
+-- The versions of a document, 2020a and 2018b of CommonRoad XML, and which children of the root are
+-- obstacles in each.
+use Rattle.std.specs.Prelude.{ℕ, Bool, true, false, ◌&&◌, ◌||◌, List, codes, Result, Ok, Err}
+use Rattle.std.specs.Prelude.{if◌then◌else◌}
 use Rattle.std.specs.Str.{bytes_eq}
 use Rattle.scenario_model.specs.declared.scenario.Version.{Version}
 use Rattle.scenario_model.specs.declared.scenario.Version.TheVariants.{V2020a, V2018b}

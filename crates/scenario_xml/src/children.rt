@@ -2,16 +2,15 @@ ghost use Rattle.std.specs.Prelude.{◌≡◌, ◌<◌, ℕ, Result, length, IfE
 ghost use Rattle.std.specs.Bool.{OnFalse};
 ghost use Rattle.element_tree.specs.Document.{Document};
 ghost use Rattle.element_tree.specs.Trees.{children};
-ghost use Rattle.reading.specs.Reading.{Gives};
+ghost use Rattle.reading.specs.Reading.{Gives, read_all, IsFirstFault};
 ghost use Rattle.scenario_xml.specs.Faults.{is_memory};
-ghost use Rattle.scenario_xml.specs.Children.{read_nodes, IsFirstFault};
 ghost use Rattle.scenario_xml.specs.declared.fault.ScenarioFault.{ScenarioFault as Fault};
 
 use crate::fault::ScenarioFault;
 use element_tree::Tree;
 use std::alloc::Global;
 
-/// What reads the children of an element one after the other.
+// What reads the children of an element one after the other.
 pub trait ChildReader {
     // what an element leaves of what was read so far, or its first fault
     ghost step: { Document → ℕ → Self → Result Self Fault };
@@ -19,7 +18,7 @@ pub trait ChildReader {
     // what is so of it between two children
     ghost is_sound: { Self → Type 0 };
 
-    /// Reads one child.
+    // Reads one child.
     fn read_child(
         &mut self,
         alloc: Global,
@@ -40,7 +39,8 @@ fn each_child<R: ChildReader>(
 ) -> Result<(), ScenarioFault>
     requires inside { node < length tree.now.nodes }
     requires sound { R.is_sound reader.old }
-    ensures exact { Gives is_memory (λ _. reader.new) result (read_nodes (R.step tree.now) (children tree.now node) reader.old) }
+    ensures exact { Gives is_memory (λ _. reader.new) result
+        (read_all (R.step tree.now) (children tree.now node) reader.old) }
     ensures sound { OnOk result (R.is_sound reader.new) }
 {
     let mut next = tree.first_child(node);
@@ -51,7 +51,7 @@ fn each_child<R: ChildReader>(
     Ok(())
 }
 
-/// Reads all children of an element, up to the first fault.
+// Reads all children of an element, up to the first fault.
 pub fn read_children<R: ChildReader>(
     reader: &mut R,
     alloc: Global,
@@ -60,11 +60,13 @@ pub fn read_children<R: ChildReader>(
 ) -> Result<(), ScenarioFault>
     requires inside { node < length tree.now.nodes }
     requires sound { R.is_sound reader.old }
-    ensures exact { Gives is_memory (λ _. reader.new) result (read_nodes (R.step tree.now) (children tree.now node) reader.old) }
+    ensures exact { Gives is_memory (λ _. reader.new) result
+        (read_all (R.step tree.now) (children tree.now node) reader.old) }
     ensures sound { OnOk result (R.is_sound reader.new) }
 
     // A fault is that of the first child with a fault: all children before it were read.
-    ensures first { IfErr result (λ e. OnFalse (is_memory e) (IsFirstFault (R.step tree.now) (children tree.now node) reader.old e)) }
+    ensures first { IfErr result (λ e. OnFalse (is_memory e)
+        (IsFirstFault (λ (_ : ℕ). R.step tree.now) 0 (children tree.now node) reader.old e)) }
 {
     each_child(reader, alloc, tree, node)
 }

@@ -1,7 +1,8 @@
-ghost use Rattle.std.specs.Prelude.{⊤, ◌≡◌, ◌<◌, ◌^◌, length, IfOk, OnOk};
+ghost use Rattle.std.specs.Prelude.{⊤, ◌≡◌, ◌<◌, length, IfOk, OnOk};
 ghost use Rattle.reading.specs.Reading.{Gives};
 ghost use Rattle.scenario_xml.specs.Faults.{is_memory};
-ghost use Rattle.scenario_xml.specs.Scenarios.{lanelet_step, obstacle_step, problem_step, content_step, known_step, known, contents};
+ghost use Rattle.scenario_xml.specs.Scenarios.{lanelet_step, obstacle_step, problem_step};
+ghost use Rattle.scenario_xml.specs.Scenarios.{content_step, id_step, known_ids, contents};
 ghost use Rattle.scenario_xml.specs.Sound.{AreContents};
 
 use crate::children::{ChildReader, read_children};
@@ -9,28 +10,23 @@ use crate::element::id_attribute;
 use crate::fault::{Kind, ScenarioFault, Wanted};
 use crate::goal::problem;
 use crate::identified::new_id;
-use crate::known::Known;
+use crate::known_ids::KnownIds;
 use crate::lanelet::lanelet;
 use crate::obstacle::any_obstacle;
 use crate::versions::names_obstacle;
 use element_tree::Tree;
 use preorder::List;
-use scenario_model::{Lanelet, Obstacle, Problem, Version};
+use scenario_model::{
+    Lanelet, MAX_LANELETS, MAX_OBSTACLES, MAX_PROBLEMS, Obstacle, Problem, Version,
+};
 use std::alloc::Global;
 
-/// The most of each kind that a scenario may have.
-const MAX_LANELETS: usize = 4000;
-
-const MAX_OBSTACLES: usize = 500;
-
-const MAX_PROBLEMS: usize = 64;
-
 impl ChildReader for List<u64> {
-    ghost step = { known_step };
+    ghost step = { id_step };
 
     ghost is_sound = { λ _. ⊤ };
 
-    #[tactic(auto, unfolding(crate::specs::Scenarios::known_step))]
+    #[tactic(auto, unfolding(crate::specs::Scenarios::id_step))]
     fn read_child(
         &mut self,
         _alloc: Global,
@@ -47,23 +43,23 @@ impl ChildReader for List<u64> {
     }
 }
 
-/// The ids of all lanelets of the document. One without a good id is left out.
-#[tactic(auto, unfolding(crate::specs::Scenarios::known))]
-fn known(alloc: Global, tree: &Tree<'_>) -> Result<Known, ScenarioFault>
+// The ids of all lanelets of the document. One without a good id is left out.
+#[tactic(auto, unfolding(crate::specs::Scenarios::known_ids))]
+fn known_ids(alloc: Global, tree: &Tree<'_>) -> Result<KnownIds, ScenarioFault>
     requires { 0 < length tree.now.nodes }
-    ensures { Gives is_memory (λ k. k) result (known tree.now) }
+    ensures { Gives is_memory (λ k. k) result (known_ids tree.now) }
 {
     let mut ids: List<u64> = List::new(alloc);
     read_children(&mut ids, alloc, tree, 0)?;
-    let known = Known::of(alloc, ids)?;
-    Ok(known)
+    let known_ids = KnownIds::of(alloc, ids)?;
+    Ok(known_ids)
 }
 
-/// What the root holds, as far as it is read.
+// What the root holds, as far as it is read.
 #[derive(Drop)]
 pub struct Contents {
     pub version: Version,
-    pub known: Known,
+    pub known_ids: KnownIds,
     pub lanelets: List<Lanelet>,
     pub obstacles: List<Obstacle>,
     pub problems: List<Problem>,
@@ -79,7 +75,8 @@ impl Contents {
     ) -> Result<(), ScenarioFault>
         requires inside { node < length tree.now.nodes }
         requires sound { AreContents self.old }
-        ensures exact { Gives is_memory (λ _. self.new) result (lanelet_step tree.now node self.old) }
+        ensures exact { Gives is_memory (λ _. self.new) result
+            (lanelet_step tree.now node self.old) }
         ensures sound { OnOk result (AreContents self.new) }
     {
         let id = new_id(
@@ -89,7 +86,7 @@ impl Contents {
             Kind::Lanelet,
             MAX_LANELETS,
         )?;
-        let lanelet = lanelet(alloc, tree, node, id, &self.known)?;
+        let lanelet = lanelet(alloc, tree, node, id, &self.known_ids)?;
         self.lanelets.push(lanelet)?;
         Ok(())
     }
@@ -103,7 +100,8 @@ impl Contents {
     ) -> Result<(), ScenarioFault>
         requires inside { node < length tree.now.nodes }
         requires sound { AreContents self.old }
-        ensures exact { Gives is_memory (λ _. self.new) result (obstacle_step tree.now node self.old) }
+        ensures exact { Gives is_memory (λ _. self.new) result
+            (obstacle_step tree.now node self.old) }
         ensures sound { OnOk result (AreContents self.new) }
     {
         let id = new_id(
@@ -127,7 +125,8 @@ impl Contents {
     ) -> Result<(), ScenarioFault>
         requires inside { node < length tree.now.nodes }
         requires sound { AreContents self.old }
-        ensures exact { Gives is_memory (λ _. self.new) result (problem_step tree.now node self.old) }
+        ensures exact { Gives is_memory (λ _. self.new) result
+            (problem_step tree.now node self.old) }
         ensures sound { OnOk result (AreContents self.new) }
     {
         let id = new_id(
@@ -168,7 +167,7 @@ impl ChildReader for Contents {
     }
 }
 
-/// What the root of a document of the version holds.
+// What the root of a document of the version holds.
 #[tactic(auto, unfolding(crate::specs::Scenarios::contents))]
 pub fn contents_of(
     alloc: Global,
@@ -179,10 +178,10 @@ pub fn contents_of(
     ensures exact { Gives is_memory (λ c. c) result (contents tree.now version) }
     ensures sound { IfOk result AreContents }
 {
-    let known = known(alloc, tree)?;
+    let known_ids = known_ids(alloc, tree)?;
     let mut contents = Contents {
         version,
-        known,
+        known_ids,
         lanelets: List::new(alloc),
         obstacles: List::new(alloc),
         problems: List::new(alloc),

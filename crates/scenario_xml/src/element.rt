@@ -1,14 +1,18 @@
-ghost use Rattle.std.specs.Prelude.{◌≡◌, ◌<◌, ◌^◌, ◌≤ℤ◌, length, false, unsigned_abs, ◌≤◌, IfOk, IfErr, IfSome};
+ghost use Rattle.std.specs.Prelude.{◌≡◌, ◌<◌, ◌≤ℤ◌, length, false, unsigned_abs, ◌≤◌, IfOk};
+ghost use Rattle.std.specs.Prelude.{IfErr, IfSome};
 ghost use Rattle.reading.specs.Reading.{Gives};
 ghost use Rattle.scenario_xml.specs.Faults.{is_memory};
 ghost use Rattle.scenario_xml.specs.Numbers.{least, most, limit};
-ghost use Rattle.scenario_xml.specs.Elements.{child, wanted_child, wanted_attribute, number, wanted_number, optional_number, optional_exact, id_attribute};
+ghost use Rattle.scenario_xml.specs.Elements.{child, wanted_child, wanted_attribute, number};
+ghost use Rattle.scenario_xml.specs.Elements.{wanted_number, optional_number, optional_exact};
+ghost use Rattle.scenario_xml.specs.Elements.{id_attribute};
+ghost use Rattle.scenario_model.specs.declared.limits.TheConstants.{PAST_IDS};
 
 use crate::fault::{ScenarioFault, Wanted};
 use crate::quantity::{Quantity, id_in, number_in};
 use element_tree::Tree;
 
-/// The first child of a name.
+// The first child of a name.
 #[tactic(auto, unfolding(crate::specs::Elements::child))]
 pub fn child(tree: &Tree<'_>, node: u32, name: &[u8]) -> Option<u32>
     requires { node < length tree.now.nodes }
@@ -25,7 +29,7 @@ pub fn child(tree: &Tree<'_>, node: u32, name: &[u8]) -> Option<u32>
     None
 }
 
-/// A child that has to be there.
+// A child that has to be there.
 #[tactic(auto, unfolding(crate::specs::Elements::wanted_child))]
 pub fn wanted_child(tree: &Tree<'_>, node: u32, wanted: Wanted) -> Result<u32, ScenarioFault>
     requires { node < length tree.now.nodes }
@@ -38,7 +42,7 @@ pub fn wanted_child(tree: &Tree<'_>, node: u32, wanted: Wanted) -> Result<u32, S
     }
 }
 
-/// An attribute that has to be there.
+// An attribute that has to be there.
 #[tactic(auto, unfolding(crate::specs::Elements::wanted_attribute))]
 pub fn wanted_attribute<'a>(
     tree: &Tree<'a>,
@@ -55,19 +59,19 @@ pub fn wanted_attribute<'a>(
     }
 }
 
-/// An attribute that is an id.
+// An attribute that is an id.
 #[tactic(auto, unfolding(crate::specs::Elements::id_attribute))]
 pub fn id_attribute(tree: &Tree<'_>, node: u32, wanted: Wanted) -> Result<u64, ScenarioFault>
     requires { node < length tree.now.nodes }
     ensures exact { Gives is_memory (λ id. id) result (id_attribute tree.now node wanted) }
-    ensures small { IfOk result (λ id. id < 10 ^ 18) }
+    ensures small { IfOk result (λ id. id < PAST_IDS) }
     ensures sure { IfErr result (λ fault. is_memory fault ≡ false) }
 {
     let text = wanted_attribute(tree, node, wanted)?;
     id_in(tree.place(node), text)
 }
 
-/// The number that an element holds.
+// The number that an element holds.
 #[tactic(auto, unfolding(crate::specs::Elements::number))]
 pub fn number(tree: &Tree<'_>, node: u32, quantity: Quantity) -> Result<i64, ScenarioFault>
     requires { node < length tree.now.nodes }
@@ -82,7 +86,7 @@ pub fn number(tree: &Tree<'_>, node: u32, quantity: Quantity) -> Result<i64, Sce
     }
 }
 
-/// The number in a child that has to be there.
+// The number in a child that has to be there.
 #[tactic(auto, unfolding(crate::specs::Elements::wanted_number))]
 pub fn wanted_number(
     tree: &Tree<'_>,
@@ -100,7 +104,7 @@ pub fn wanted_number(
     number(tree, found, quantity)
 }
 
-/// The number in a child that may be absent, which then counts as 0.
+// The number in a child that may be absent, which then counts as 0.
 #[tactic(auto, unfolding(crate::specs::Elements::optional_number))]
 pub fn optional_number(
     tree: &Tree<'_>,
@@ -109,7 +113,8 @@ pub fn optional_number(
     quantity: Quantity,
 ) -> Result<i64, ScenarioFault>
     requires { node < length tree.now.nodes }
-    ensures exact { Gives is_memory (λ n. n) result (optional_number tree.now node name.now quantity) }
+    ensures exact { Gives is_memory (λ n. n) result
+        (optional_number tree.now node name.now quantity) }
     ensures size { IfOk result (λ n. unsigned_abs n ≤ limit quantity) }
 {
     match child(tree, node, name) {
@@ -118,7 +123,7 @@ pub fn optional_number(
     }
 }
 
-/// The exact number of a child that may be absent, which then counts as 0.
+// The exact number of a child that may be absent, which then counts as 0.
 #[tactic(auto, unfolding(crate::specs::Elements::optional_exact))]
 pub fn optional_exact(
     tree: &Tree<'_>,
@@ -127,7 +132,8 @@ pub fn optional_exact(
     quantity: Quantity,
 ) -> Result<i64, ScenarioFault>
     requires { node < length tree.now.nodes }
-    ensures exact { Gives is_memory (λ n. n) result (optional_exact tree.now node name.now quantity) }
+    ensures exact { Gives is_memory (λ n. n) result
+        (optional_exact tree.now node name.now quantity) }
     ensures size { IfOk result (λ n. unsigned_abs n ≤ limit quantity) }
 {
     match child(tree, node, name) {

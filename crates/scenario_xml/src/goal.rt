@@ -1,8 +1,13 @@
-ghost use Rattle.std.specs.Prelude.{◌≡◌, ◌<◌, ◌≤◌, ◌^◌, ◌≤ℤ◌, pos, unsigned_abs, length, All, IfOk, IfSome};
+ghost use Rattle.std.specs.Prelude.{◌≡◌, ◌<◌, ◌≤◌, ◌≤ℤ◌, pos, unsigned_abs, length, All, IfOk};
+ghost use Rattle.std.specs.Prelude.{IfSome};
+ghost use Rattle.scenario_model.specs.Scenario.{IsSpan};
 ghost use Rattle.reading.specs.Reading.{Gives};
 ghost use Rattle.scenario_xml.specs.Faults.{is_memory};
-ghost use Rattle.scenario_xml.specs.Goals.{ticks, heading_span, speed_span, goal, goal_step, goals, problem};
+ghost use Rattle.scenario_xml.specs.Goals.{ticks, heading_span, speed_span, goal, goal_step, goals};
+ghost use Rattle.scenario_xml.specs.Goals.{problem};
 ghost use Rattle.scenario_xml.specs.Sound.{IsSoundGoal, IsSoundProblem, AreGoals};
+ghost use Rattle.scenario_model.specs.declared.limits.TheConstants.{MAX_HEADING, MAX_SPEED};
+ghost use Rattle.scenario_model.specs.declared.limits.TheConstants.{MAX_TICK, PAST_IDS};
 
 use crate::children::{ChildReader, read_children};
 use crate::element::wanted_child;
@@ -13,16 +18,16 @@ use crate::span::{optional_span, span};
 use crate::state::{pose, tick};
 use element_tree::Tree;
 use preorder::List;
-use scenario_model::{Goal, Problem, Span};
+use scenario_model::{Goal, MAX_GOALS, Problem, Span};
 use std::alloc::Global;
 
-/// The ticks of a goal.
+// The ticks of a goal.
 #[tactic(auto, unfolding(crate::specs::Goals::ticks))]
 fn ticks(tree: &Tree<'_>, node: u32) -> Result<Span, ScenarioFault>
     requires { node < length tree.now.nodes }
     ensures exact { Gives is_memory (λ s. s) result (ticks tree.now node) }
     ensures low { IfOk result (λ s. (pos 0 ≤ℤ s.low) × (pos 0 ≤ℤ s.high)) }
-    ensures high { IfOk result (λ s. (s.low ≤ℤ pos 1_000_000) × (s.high ≤ℤ pos 1_000_000)) }
+    ensures high { IfOk result (λ s. (s.low ≤ℤ pos MAX_TICK) × (s.high ≤ℤ pos MAX_TICK)) }
 {
     let time = wanted_child(tree, node, Wanted::Time)?;
     span(tree, time, Quantity::Tick)
@@ -32,7 +37,7 @@ fn ticks(tree: &Tree<'_>, node: u32) -> Result<Span, ScenarioFault>
 fn heading_span(tree: &Tree<'_>, node: u32) -> Result<Option<Span>, ScenarioFault>
     requires { node < length tree.now.nodes }
     ensures exact { Gives is_memory (λ s. s) result (heading_span tree.now node) }
-    ensures small { IfOk result (λ found. IfSome found (λ s. (unsigned_abs s.low ≤ 10 ^ 9) × (unsigned_abs s.high ≤ 10 ^ 9))) }
+    ensures small { IfOk result (λ found. IfSome found (IsSpan MAX_HEADING)) }
 {
     optional_span(tree, node, b"orientation", Quantity::Angle)
 }
@@ -41,12 +46,12 @@ fn heading_span(tree: &Tree<'_>, node: u32) -> Result<Option<Span>, ScenarioFaul
 fn speed_span(tree: &Tree<'_>, node: u32) -> Result<Option<Span>, ScenarioFault>
     requires { node < length tree.now.nodes }
     ensures exact { Gives is_memory (λ s. s) result (speed_span tree.now node) }
-    ensures small { IfOk result (λ found. IfSome found (λ s. (unsigned_abs s.low ≤ 10 ^ 6) × (unsigned_abs s.high ≤ 10 ^ 6))) }
+    ensures small { IfOk result (λ found. IfSome found (IsSpan MAX_SPEED)) }
 {
     optional_span(tree, node, b"velocity", Quantity::Speed)
 }
 
-/// A `goalState` of the problem with the id.
+// A `goalState` of the problem with the id.
 #[tactic(auto, unfolding(crate::specs::Goals::goal), using(crate::proofs::SoundLaws::sound_goal))]
 fn goal(alloc: Global, tree: &Tree<'_>, node: u32, id: u64) -> Result<Goal, ScenarioFault>
     requires { node < length tree.now.nodes }
@@ -66,10 +71,7 @@ fn goal(alloc: Global, tree: &Tree<'_>, node: u32, id: u64) -> Result<Goal, Scen
     })
 }
 
-/// The most goals of a problem.
-const MAX_GOALS: usize = 64;
-
-/// The goals read so far, of the problem with the id.
+// The goals read so far, of the problem with the id.
 #[derive(Drop)]
 struct GoalsSoFar {
     id: u64,
@@ -100,12 +102,12 @@ impl ChildReader for GoalsSoFar {
     }
 }
 
-/// The goals of the problem with the id.
+// The goals of the problem with the id.
 #[tactic(auto, unfolding(crate::specs::Goals::goals))]
 fn goals(alloc: Global, tree: &Tree<'_>, node: u32, id: u64) -> Result<List<Goal>, ScenarioFault>
     requires { node < length tree.now.nodes }
     ensures exact { Gives is_memory (λ g. g) result (goals tree.now node id) }
-    ensures count { IfOk result (λ g. (1 ≤ length g) × (length g ≤ 64)) }
+    ensures count { IfOk result (λ g. (1 ≤ length g) × (length g ≤ MAX_GOALS)) }
     ensures sound { IfOk result (All IsSoundGoal) }
 {
     let mut so_far = GoalsSoFar {
@@ -119,11 +121,11 @@ fn goals(alloc: Global, tree: &Tree<'_>, node: u32, id: u64) -> Result<List<Goal
     Ok(so_far.goals)
 }
 
-/// A `planningProblem` with the id.
+// A `planningProblem` with the id.
 #[tactic(auto, unfolding(crate::specs::Goals::problem), using(crate::proofs::SoundLaws::sound_problem))]
 pub fn problem(alloc: Global, tree: &Tree<'_>, node: u32, id: u64) -> Result<Problem, ScenarioFault>
     requires inside { node < length tree.now.nodes }
-    requires id { id < 10 ^ 18 }
+    requires id { id < PAST_IDS }
     ensures exact { Gives is_memory (λ p. p) result (problem tree.now node id) }
     ensures id { IfOk result (λ p. p.id ≡ id) }
     ensures sound { IfOk result IsSoundProblem }

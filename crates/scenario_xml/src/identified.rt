@@ -1,14 +1,15 @@
-ghost use Rattle.std.specs.Prelude.{◌≡◌, ◌<◌, ◌^◌, ℕ, length, IfOk};
+ghost use Rattle.std.specs.Prelude.{◌≡◌, ◌<◌, ℕ, length, IfOk};
 ghost use Rattle.reading.specs.Reading.{Gives};
 ghost use Rattle.scenario_xml.specs.Faults.{is_memory};
 ghost use Rattle.scenario_xml.specs.Scenarios.{has_id, new_id};
+ghost use Rattle.scenario_model.specs.declared.limits.TheConstants.{PAST_IDS};
 
 use crate::element::id_attribute;
 use crate::fault::{Kind, ScenarioFault, Wanted};
 use element_tree::Tree;
 use scenario_model::{Lanelet, Obstacle, Problem};
 
-/// What has an id.
+// What has an id.
 pub trait Identified {
     ghost id_of: { Self → ℕ };
 
@@ -40,7 +41,7 @@ impl Identified for Problem {
     }
 }
 
-/// Whether one of these has the id.
+// Whether one of these has the id.
 #[tactic(auto, unfolding(crate::specs::Scenarios::has_id))]
 fn has_id<T: Identified>(items: &[T], id: u64) -> bool
     ensures { result ≡ has_id T.id_of id items.now }
@@ -48,7 +49,7 @@ fn has_id<T: Identified>(items: &[T], id: u64) -> bool
     items.iter().any(|item| item.id() == id)
 }
 
-/// The id of one more element of a kind, of which there may be so many, after these.
+// The id of one more element of a kind, of which there may be so many, after these.
 #[tactic(auto, unfolding(crate::specs::Scenarios::new_id))]
 pub fn new_id<T: Identified>(
     tree: &Tree<'_>,
@@ -58,8 +59,9 @@ pub fn new_id<T: Identified>(
     limit: usize,
 ) -> Result<u64, ScenarioFault>
     requires { node < length tree.now.nodes }
-    ensures exact { Gives is_memory (λ id. id) result (new_id kind limit T.id_of tree.now node items.now) }
-    ensures small { IfOk result (λ id. id < 10 ^ 18) }
+    ensures exact { Gives is_memory (λ id. id) result
+        (new_id kind limit T.id_of tree.now node items.now) }
+    ensures small { IfOk result (λ id. id < PAST_IDS) }
 {
     if items.len() >= limit {
         return Err(ScenarioFault::TooMany(kind));

@@ -1,7 +1,10 @@
-//! The driving scenario of a CommonRoad XML document (versions 2020a and 2018b), as far as it is read here.
+//! The driving scenario of a CommonRoad XML document (versions 2020a and 2018b), as far as it is
+//! read here.
 //!
-//! The layer above uses that `read_scenario` gives the scenario of `specs/Scenarios.antt`, or the first fault in the order that stands there, and that a scenario is well formed.
-//! Each element has a definition of its own in `specs/`, and one function that gives it. What the whole comes to stands in `specs/ScenarioOf.antt` and `ScenarioFaults.antt`.
+//! The layer above uses that `read_scenario` gives the scenario of `specs/Scenarios.antt`, or the
+//! first fault in the order that stands there, and that a scenario is well formed. Each element has
+//! a definition of its own in `specs/`, and one function that gives it. What the whole comes to
+//! stands in `specs/ScenarioOf.antt` and `ScenarioFaults.antt`.
 #![tactic(auto)]
 
 mod children;
@@ -10,8 +13,9 @@ mod element;
 mod fault;
 mod goal;
 mod identified;
-mod known;
+mod known_ids;
 mod lanelet;
+mod limits;
 mod obstacle;
 mod quantity;
 mod region;
@@ -22,8 +26,9 @@ mod span;
 mod state;
 #[cfg(test)]
 mod tests;
-mod unknown;
+mod unknown_id;
 mod versions;
 
 pub use fault::{Kind, ScenarioFault, Wanted};
+pub use limits::MAX_ID_DIGITS;
 pub use scenario::read_scenario;

@@ -1,31 +1,36 @@
-ghost use Rattle.std.specs.Prelude.{◌≡◌, ◌≤◌, ◌<◌, ◌^◌, ◌≤ℤ◌, true, false, IfOk, IfErr, unsigned_abs};
+ghost use Rattle.std.specs.Prelude.{◌≡◌, ◌≤◌, ◌<◌, ◌≤ℤ◌, true, false, IfOk, IfErr};
+ghost use Rattle.std.specs.Prelude.{unsigned_abs};
 ghost use Rattle.reading.specs.Reading.{Gives};
 ghost use Rattle.scenario_xml.specs.Faults.{is_memory};
-ghost use Rattle.scenario_xml.specs.Numbers.{places, least, most, limit, is_in_range, number_in, id_in};
+ghost use Rattle.scenario_xml.specs.Numbers.{places, least, most, limit, is_in_range, number_in};
+ghost use Rattle.scenario_xml.specs.Numbers.{id_in};
+ghost use Rattle.scenario_model.specs.declared.limits.TheConstants.{PAST_IDS};
 
 use crate::fault::ScenarioFault;
-use fixed_decimal::parse_fixed;
+use crate::limits::MAX_ID_DIGITS;
+use fixed_decimal::{MAX_VALUE, parse_fixed};
 use reading::number_in as digits_in;
+use scenario_model::{MAX_COORDINATE, MAX_HEADING, MAX_SPEED, MAX_STEP_MICROS, MAX_TICK};
 
-/// What a number counts.
+// What a number counts.
 #[derive(Clone, Copy, Debug, PartialEq, Eq)]
 pub enum Quantity {
-    /// A coordinate, in 0.1 mm.
+    // A coordinate, in 0.1 mm.
     Coordinate,
-    /// A side or a radius, in 0.1 mm. Its limits are those of a shape.
+    // A side or a radius, in 0.1 mm. Its limits are those of a shape.
     Side,
-    /// An angle, in microradians.
+    // An angle, in microradians.
     Angle,
-    /// A speed, in mm/s.
+    // A speed, in mm/s.
     Speed,
-    /// A time, in ticks.
+    // A time, in ticks.
     Tick,
-    /// How long a tick is, in microseconds.
+    // How long a tick is, in microseconds.
     Step,
 }
 
 impl Quantity {
-    /// How many digits after the point are read.
+    // How many digits after the point are read.
     fn places(self) -> u8
         ensures exact { result ≡ places self }
         ensures few { result ≤ 9 }
@@ -42,10 +47,10 @@ impl Quantity {
         ensures { result ≡ least self }
     {
         match self {
-            Quantity::Coordinate => -100_000_000_000,
-            Quantity::Side => -1_000_000_000_000_000_000,
-            Quantity::Angle => -1_000_000_000,
-            Quantity::Speed => -1_000_000,
+            Quantity::Coordinate => -(MAX_COORDINATE as i64),
+            Quantity::Side => -(MAX_VALUE as i64),
+            Quantity::Angle => -(MAX_HEADING as i64),
+            Quantity::Speed => -(MAX_SPEED as i64),
             Quantity::Tick => 0,
             Quantity::Step => 1,
         }
@@ -55,10 +60,12 @@ impl Quantity {
         ensures { result ≡ most self }
     {
         match self {
-            Quantity::Coordinate => 100_000_000_000,
-            Quantity::Side => 1_000_000_000_000_000_000,
-            Quantity::Angle | Quantity::Step => 1_000_000_000,
-            Quantity::Speed | Quantity::Tick => 1_000_000,
+            Quantity::Coordinate => MAX_COORDINATE as i64,
+            Quantity::Side => MAX_VALUE as i64,
+            Quantity::Angle => MAX_HEADING as i64,
+            Quantity::Speed => MAX_SPEED as i64,
+            Quantity::Tick => i64::from(MAX_TICK),
+            Quantity::Step => MAX_STEP_MICROS,
         }
     }
 
@@ -73,7 +80,7 @@ impl Quantity {
     }
 }
 
-/// The number that a text is, of an element at a place.
+// The number that a text is, of an element at a place.
 #[tactic(auto, unfolding(crate::specs::Numbers::number_in))]
 pub fn number_in(place: usize, text: &[u8], quantity: Quantity) -> Result<i64, ScenarioFault>
     ensures exact { Gives is_memory (λ n. n) result (number_in place quantity text.now) }
@@ -87,17 +94,14 @@ pub fn number_in(place: usize, text: &[u8], quantity: Quantity) -> Result<i64, S
     }
 }
 
-/// The most digits of an id.
-const MAX_DIGITS: usize = 18;
-
-/// The id that a text is, of an element at a place.
+// The id that a text is, of an element at a place.
 #[tactic(auto, unfolding(crate::specs::Numbers::id_in), using(crate::proofs::Ids::short_number))]
 pub fn id_in(place: usize, text: &[u8]) -> Result<u64, ScenarioFault>
     ensures exact { Gives is_memory (λ id. id) result (id_in place text.now) }
-    ensures small { IfOk result (λ id. id < 10 ^ 18) }
+    ensures small { IfOk result (λ id. id < PAST_IDS) }
     ensures sure { IfErr result (λ fault. is_memory fault ≡ false) }
 {
-    if text.len() > MAX_DIGITS {
+    if text.len() > MAX_ID_DIGITS {
         return Err(ScenarioFault::BadNumber(place));
     }
     match digits_in(text) {

@@ -10,7 +10,7 @@ use crate::fault::{Kind, ScenarioFault, Wanted};
 use crate::shape::any_shape;
 use element_tree::Tree;
 use preorder::List;
-use scenario_model::Region;
+use scenario_model::{MAX_REGIONS, Region};
 use std::alloc::Global;
 
 #[tactic(auto, unfolding(crate::specs::Goals::is_region))]
@@ -23,7 +23,7 @@ fn is_region(name: &[u8]) -> bool
         || name == b"lanelet".as_slice()
 }
 
-/// The region that an element is. None where its name is no region's.
+// The region that an element is. None where its name is no region's.
 #[tactic(auto, unfolding(crate::specs::Goals::any_region), using(crate::proofs::SoundLaws::sound_shape, crate::proofs::SoundLaws::sound_lanelet))]
 fn any_region(
     alloc: Global,
@@ -45,10 +45,7 @@ fn any_region(
     }
 }
 
-/// The most regions of a goal.
-const MAX_REGIONS: usize = 64;
-
-/// The regions read so far, of the problem with the id.
+// The regions read so far, of the problem with the id.
 #[derive(Drop)]
 struct RegionsSoFar {
     id: u64,
@@ -80,7 +77,7 @@ impl ChildReader for RegionsSoFar {
     }
 }
 
-/// The regions of a goal of the problem with the id.
+// The regions of a goal of the problem with the id.
 #[tactic(auto, unfolding(crate::specs::Goals::regions))]
 pub fn regions(
     alloc: Global,
@@ -90,7 +87,7 @@ pub fn regions(
 ) -> Result<List<Region>, ScenarioFault>
     requires { node < length tree.now.nodes }
     ensures exact { Gives is_memory (λ r. r) result (regions tree.now node id) }
-    ensures few { IfOk result (λ r. length r ≤ 64) }
+    ensures few { IfOk result (λ r. length r ≤ MAX_REGIONS) }
     ensures sound { IfOk result (All IsSoundRegion) }
 {
     let mut so_far = RegionsSoFar {

@@ -1,21 +1,24 @@
-ghost use Rattle.std.specs.Prelude.{◌≡◌, ◌<◌, ◌≤◌, ◌≤ℤ◌, length, map, sum, pos, true, All, IfOk, IfSome};
+ghost use Rattle.std.specs.Prelude.{◌≡◌, ◌<◌, ◌≤◌, ◌≤ℤ◌, length, map, sum, pos, true, All, IfOk};
+ghost use Rattle.std.specs.Prelude.{IfSome};
 ghost use Rattle.fixed_geometry.specs.Shapes.{IsExtent};
 ghost use Rattle.reading.specs.Reading.{Gives};
 ghost use Rattle.scenario_model.specs.Scenario.{corner_count, IsRead, IsShape};
 ghost use Rattle.scenario_xml.specs.Faults.{is_memory};
-ghost use Rattle.scenario_xml.specs.Shapes.{point, point_step, points, center, is_extent, rectangle, circle, polygon, any_shape, shape_step, shapes, IsSoFar};
+ghost use Rattle.scenario_xml.specs.Shapes.{point, point_step, points, center, is_extent};
+ghost use Rattle.scenario_xml.specs.Shapes.{rectangle, circle, polygon, any_shape, shape_step};
+ghost use Rattle.scenario_xml.specs.Shapes.{shapes, IsSoFar};
 
 use crate::children::{ChildReader, read_children};
 use crate::element::{child, optional_number, wanted_number};
 use crate::fault::{ScenarioFault, Wanted};
 use crate::quantity::Quantity;
 use element_tree::Tree;
-use fixed_geometry::Point;
+use fixed_geometry::{CIRCLE_CORNERS, MAX_EXTENT, MIN_POLYGON_CORNERS, Point};
 use preorder::List;
-use scenario_model::Shape;
+use scenario_model::{MAX_CORNERS, RECTANGLE_CORNERS, Shape};
 use std::alloc::Global;
 
-/// A `point` or a `center`.
+// A `point` or a `center`.
 #[tactic(auto, unfolding(crate::specs::Shapes::point))]
 pub fn point(tree: &Tree<'_>, node: u32) -> Result<Point, ScenarioFault>
     requires { node < length tree.now.nodes }
@@ -47,7 +50,7 @@ impl ChildReader for List<Point> {
     }
 }
 
-/// The points in an element, in order.
+// The points in an element, in order.
 #[tactic(auto, unfolding(crate::specs::Shapes::points))]
 pub fn points(alloc: Global, tree: &Tree<'_>, node: u32) -> Result<List<Point>, ScenarioFault>
     requires { node < length tree.now.nodes }
@@ -59,7 +62,7 @@ pub fn points(alloc: Global, tree: &Tree<'_>, node: u32) -> Result<List<Point>, 
     Ok(points)
 }
 
-/// The center of a shape.
+// The center of a shape.
 #[tactic(auto, unfolding(crate::specs::Shapes::center))]
 fn center(tree: &Tree<'_>, node: u32) -> Result<Point, ScenarioFault>
     requires { node < length tree.now.nodes }
@@ -72,18 +75,15 @@ fn center(tree: &Tree<'_>, node: u32) -> Result<Point, ScenarioFault>
     }
 }
 
-/// The longest side or radius.
-const MAX_EXTENT: i64 = 10_000_000;
-
 #[tactic(auto, unfolding(crate::specs::Shapes::is_extent))]
 fn is_extent(number: i64) -> bool
     ensures exact { result ≡ is_extent number }
     ensures sound { result ≡ true → IsExtent number }
 {
-    1 <= number && number <= MAX_EXTENT
+    1 <= number && number <= MAX_EXTENT as i64
 }
 
-/// A `rectangle` of the obstacle or problem with the id.
+// A `rectangle` of the obstacle or problem with the id.
 #[tactic(auto, unfolding(crate::specs::Shapes::rectangle))]
 fn rectangle(tree: &Tree<'_>, node: u32, id: u64) -> Result<Shape, ScenarioFault>
     requires { node < length tree.now.nodes }
@@ -106,7 +106,7 @@ fn rectangle(tree: &Tree<'_>, node: u32, id: u64) -> Result<Shape, ScenarioFault
     }
 }
 
-/// A `circle` of the obstacle or problem with the id.
+// A `circle` of the obstacle or problem with the id.
 #[tactic(auto, unfolding(crate::specs::Shapes::circle))]
 fn circle(tree: &Tree<'_>, node: u32, id: u64) -> Result<Shape, ScenarioFault>
     requires { node < length tree.now.nodes }
@@ -122,10 +122,7 @@ fn circle(tree: &Tree<'_>, node: u32, id: u64) -> Result<Shape, ScenarioFault>
     }
 }
 
-/// The most corners of a polygon, and of all shapes of an obstacle.
-const MAX_CORNERS: usize = 256;
-
-/// A `polygon` of the obstacle or problem with the id.
+// A `polygon` of the obstacle or problem with the id.
 #[tactic(auto, unfolding(crate::specs::Shapes::polygon))]
 fn polygon(alloc: Global, tree: &Tree<'_>, node: u32, id: u64) -> Result<Shape, ScenarioFault>
     requires { node < length tree.now.nodes }
@@ -134,14 +131,14 @@ fn polygon(alloc: Global, tree: &Tree<'_>, node: u32, id: u64) -> Result<Shape, 
 {
     let corners = points(alloc, tree, node)?;
     let count = corners.as_slice().len();
-    if 3 <= count && count <= MAX_CORNERS {
+    if MIN_POLYGON_CORNERS <= count && count <= MAX_CORNERS {
         Ok(Shape::Corners { corners })
     } else {
         Err(ScenarioFault::BadShape(id))
     }
 }
 
-/// The shape that an element is. None where its name is no shape's.
+// The shape that an element is. None where its name is no shape's.
 #[tactic(auto, unfolding(crate::specs::Shapes::any_shape))]
 pub fn any_shape(
     alloc: Global,
@@ -165,23 +162,23 @@ pub fn any_shape(
     }
 }
 
-/// How many corners a shape counts for.
+// How many corners a shape counts for.
 fn corner_count(shape: &Shape) -> usize
     ensures { result ≡ corner_count shape.now }
 {
     match shape {
-        Shape::Rectangle { .. } => 4,
-        Shape::Circle { .. } => 16,
+        Shape::Rectangle { .. } => RECTANGLE_CORNERS,
+        Shape::Circle { .. } => CIRCLE_CORNERS,
         Shape::Corners { corners } => corners.as_slice().len(),
     }
 }
 
-/// The shapes read so far, of the obstacle with the id.
+// The shapes read so far, of the obstacle with the id.
 #[derive(Drop)]
 struct ShapesSoFar {
     id: u64,
     shapes: List<Shape>,
-    /// How many corners may still come.
+    // How many corners may still come.
     room: usize,
 }
 
@@ -210,7 +207,7 @@ impl ChildReader for ShapesSoFar {
     }
 }
 
-/// The shapes in an element, of the obstacle with the id.
+// The shapes in an element, of the obstacle with the id.
 #[tactic(auto, unfolding(crate::specs::Shapes::shapes))]
 pub fn shapes(
     alloc: Global,
@@ -222,7 +219,7 @@ pub fn shapes(
     ensures exact { Gives is_memory (λ s. s) result (shapes tree.now node id) }
     ensures some { IfOk result (λ s. 1 ≤ length s) }
     ensures sound { IfOk result (All IsShape) }
-    ensures corners { IfOk result (λ s. sum (map corner_count s) ≤ 256) }
+    ensures corners { IfOk result (λ s. sum (map corner_count s) ≤ MAX_CORNERS) }
 {
     let mut so_far = ShapesSoFar {
         id,

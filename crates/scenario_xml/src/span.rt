@@ -1,5 +1,6 @@
-ghost use Rattle.std.specs.Prelude.{◌≡◌, ◌<◌, ◌≤◌, ◌≤ℤ◌, unsigned_abs, length, IfOk, IfSome};
+ghost use Rattle.std.specs.Prelude.{◌≡◌, ◌<◌, ◌≤ℤ◌, length, IfOk, IfSome};
 ghost use Rattle.reading.specs.Reading.{Gives};
+ghost use Rattle.scenario_model.specs.Scenario.{IsSpan};
 ghost use Rattle.scenario_xml.specs.Faults.{is_memory};
 ghost use Rattle.scenario_xml.specs.Goals.{span, optional_span};
 ghost use Rattle.scenario_xml.specs.Numbers.{least, most, limit};
@@ -10,14 +11,14 @@ use crate::quantity::Quantity;
 use element_tree::Tree;
 use scenario_model::Span;
 
-/// What an element spans.
+// What an element spans.
 #[tactic(auto, unfolding(crate::specs::Goals::span))]
 pub fn span(tree: &Tree<'_>, node: u32, quantity: Quantity) -> Result<Span, ScenarioFault>
     requires { node < length tree.now.nodes }
     ensures exact { Gives is_memory (λ s. s) result (span tree.now node quantity) }
     ensures low { IfOk result (λ s. (least quantity ≤ℤ s.low) × (least quantity ≤ℤ s.high)) }
     ensures high { IfOk result (λ s. (s.low ≤ℤ most quantity) × (s.high ≤ℤ most quantity)) }
-    ensures size { IfOk result (λ s. (unsigned_abs s.low ≤ limit quantity) × (unsigned_abs s.high ≤ limit quantity)) }
+    ensures size { IfOk result (IsSpan (limit quantity)) }
 {
     if let Some(found) = child(tree, node, b"exact") {
         let number = number(tree, found, quantity)?;
@@ -31,7 +32,7 @@ pub fn span(tree: &Tree<'_>, node: u32, quantity: Quantity) -> Result<Span, Scen
     Ok(Span { low, high })
 }
 
-/// What a child spans, which may be absent.
+// What a child spans, which may be absent.
 #[tactic(auto, unfolding(crate::specs::Goals::optional_span))]
 pub fn optional_span(
     tree: &Tree<'_>,
@@ -40,8 +41,9 @@ pub fn optional_span(
     quantity: Quantity,
 ) -> Result<Option<Span>, ScenarioFault>
     requires { node < length tree.now.nodes }
-    ensures exact { Gives is_memory (λ s. s) result (optional_span tree.now node name.now quantity) }
-    ensures size { IfOk result (λ found. IfSome found (λ s. (unsigned_abs s.low ≤ limit quantity) × (unsigned_abs s.high ≤ limit quantity))) }
+    ensures exact { Gives is_memory (λ s. s) result
+        (optional_span tree.now node name.now quantity) }
+    ensures size { IfOk result (λ found. IfSome found (IsSpan (limit quantity))) }
 {
     match child(tree, node, name) {
         Some(found) => Ok(Some(span(tree, found, quantity)?)),

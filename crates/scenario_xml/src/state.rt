@@ -1,8 +1,11 @@
-ghost use Rattle.std.specs.Prelude.{◌≡◌, ◌<◌, ◌≤◌, ◌≤ℤ◌, ◌^◌, pos, unsigned_abs, length, All, IfOk};
+ghost use Rattle.std.specs.Prelude.{◌≡◌, ◌<◌, ◌≤◌, ◌≤ℤ◌, pos, unsigned_abs, length, All, IfOk};
 ghost use Rattle.scenario_model.specs.Scenario.{IsRead, IsPose};
 ghost use Rattle.reading.specs.Reading.{Gives};
 ghost use Rattle.scenario_xml.specs.Faults.{is_memory};
-ghost use Rattle.scenario_xml.specs.States.{position, time, heading, speed, pose, state_step, states};
+ghost use Rattle.scenario_xml.specs.States.{position, time, heading, speed, pose, state_step};
+ghost use Rattle.scenario_xml.specs.States.{states};
+ghost use Rattle.scenario_model.specs.declared.limits.TheConstants.{MAX_HEADING, MAX_SPEED};
+ghost use Rattle.scenario_model.specs.declared.limits.TheConstants.{MAX_TICK};
 
 use crate::children::{ChildReader, read_children};
 use crate::element::{child, optional_exact, wanted_child, wanted_number};
@@ -15,7 +18,7 @@ use preorder::List;
 use scenario_model::Pose;
 use std::alloc::Global;
 
-/// The point of a `position`.
+// The point of a `position`.
 #[tactic(auto, unfolding(crate::specs::States::position))]
 fn position(tree: &Tree<'_>, node: u32) -> Result<Point, ScenarioFault>
     requires { node < length tree.now.nodes }
@@ -27,22 +30,22 @@ fn position(tree: &Tree<'_>, node: u32) -> Result<Point, ScenarioFault>
     point(tree, found)
 }
 
-/// A tick that was read.
+// A tick that was read.
 pub fn tick(number: i64) -> u32
     requires low { pos 0 ≤ℤ number }
-    requires high { number ≤ℤ pos 1_000_000 }
+    requires high { number ≤ℤ pos MAX_TICK }
     ensures value { result ≡ unsigned_abs number }
-    ensures small { result ≤ 10 ^ 6 }
+    ensures small { result ≤ MAX_TICK }
 {
     number as u32
 }
 
-/// The time of a state. Where it is not needed it may be absent, and counts as 0 then.
+// The time of a state. Where it is not needed it may be absent, and counts as 0 then.
 #[tactic(auto, unfolding(crate::specs::States::time))]
 fn time(tree: &Tree<'_>, node: u32, needed: bool) -> Result<u32, ScenarioFault>
     requires { node < length tree.now.nodes }
     ensures exact { Gives is_memory (λ t. t) result (time tree.now node needed) }
-    ensures small { IfOk result (λ t. t ≤ 10 ^ 6) }
+    ensures small { IfOk result (λ t. t ≤ MAX_TICK) }
 {
     match child(tree, node, b"time") {
         Some(found) => {
@@ -58,7 +61,7 @@ fn time(tree: &Tree<'_>, node: u32, needed: bool) -> Result<u32, ScenarioFault>
 fn heading(tree: &Tree<'_>, node: u32) -> Result<i64, ScenarioFault>
     requires { node < length tree.now.nodes }
     ensures exact { Gives is_memory (λ n. n) result (heading tree.now node) }
-    ensures small { IfOk result (λ n. unsigned_abs n ≤ 10 ^ 9) }
+    ensures small { IfOk result (λ n. unsigned_abs n ≤ MAX_HEADING) }
 {
     optional_exact(tree, node, b"orientation", Quantity::Angle)
 }
@@ -67,12 +70,12 @@ fn heading(tree: &Tree<'_>, node: u32) -> Result<i64, ScenarioFault>
 fn speed(tree: &Tree<'_>, node: u32) -> Result<i64, ScenarioFault>
     requires { node < length tree.now.nodes }
     ensures exact { Gives is_memory (λ n. n) result (speed tree.now node) }
-    ensures small { IfOk result (λ n. unsigned_abs n ≤ 10 ^ 6) }
+    ensures small { IfOk result (λ n. unsigned_abs n ≤ MAX_SPEED) }
 {
     optional_exact(tree, node, b"velocity", Quantity::Speed)
 }
 
-/// A state.
+// A state.
 #[tactic(auto, unfolding(crate::specs::States::pose))]
 pub fn pose(tree: &Tree<'_>, node: u32, timed: bool) -> Result<Pose, ScenarioFault>
     requires { node < length tree.now.nodes }
@@ -111,7 +114,7 @@ impl ChildReader for List<Pose> {
     }
 }
 
-/// The states of an obstacle that moves, the initial one first.
+// The states of an obstacle that moves, the initial one first.
 #[tactic(auto, unfolding(crate::specs::States::states))]
 pub fn states(
     alloc: Global,

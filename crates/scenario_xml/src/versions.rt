@@ -6,7 +6,7 @@ ghost use Rattle.scenario_xml.specs.Versions.{version_in, has_roles, names_obsta
 use crate::fault::ScenarioFault;
 use scenario_model::Version;
 
-/// The version that is written so.
+// The version that is written so.
 #[tactic(auto, unfolding(crate::specs::Versions::version_in))]
 pub fn version_in(text: &[u8]) -> Result<Version, ScenarioFault>
     ensures { Gives is_memory (λ version. version) result (version_in text.now) }
@@ -20,7 +20,7 @@ pub fn version_in(text: &[u8]) -> Result<Version, ScenarioFault>
     }
 }
 
-/// Whether the version has the element `obstacle`.
+// Whether the version has the element `obstacle`.
 fn has_roles(version: Version) -> bool
     ensures { result ≡ has_roles version }
 {
@@ -30,7 +30,7 @@ fn has_roles(version: Version) -> bool
     }
 }
 
-/// Whether the name is that of an obstacle, in a version.
+// Whether the name is that of an obstacle, in a version.
 #[tactic(auto, unfolding(crate::specs::Versions::names_obstacle))]
 pub fn names_obstacle(version: Version, name: &[u8]) -> bool
     ensures { result ≡ names_obstacle version name.now }

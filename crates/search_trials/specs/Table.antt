@@ -1,5 +1,6 @@
 -- A graph of five places that is written as a table.
-use Rattle.std.specs.Prelude.{◌≡◌, ℕ, ◌-◌, ◌*◌, ◌^◌, ◌<◌, ◌≤◌, Bool, true, false, List, [], ◌∷◌, length, All, refl}
+use Rattle.std.specs.Prelude.{◌≡◌, ℕ, ◌-◌, ◌*◌, ◌^◌, ◌<◌, ◌≤◌, Bool, true, false, List, [], ◌∷◌}
+use Rattle.std.specs.Prelude.{length, All, refl}
 use Rattle.std.proofs.Common.{zero, suc, arith}
 use Rattle.rulebook_order.specs.Graph.{Graph}
 use Rattle.rulebook_order.specs.StepGraph.{IsStepGraph, AddsUpTo, ticks_passed}
@@ -96,7 +97,8 @@ high Yard = omega arith
 adds : (a b : ℕ) → a ≤ 3 → b ≤ 3 → AddsUpTo table 3 (a ∷ b ∷ [])
 adds a b h k = record { width = refl; up_to = two 3 a b h k }
 
-adds_at : (s : Place) (c : ℕ) → c < choices_at s → AddsUpTo table (3 * ticks_passed table s c) (cost_at s c)
+adds_at : (s : Place) (c : ℕ) → c < choices_at s
+    → AddsUpTo table (3 * ticks_passed table s c) (cost_at s c)
 adds_at Start zero h = adds 1 0 (omega arith) (omega arith)
 adds_at Start (suc zero) h = adds 0 1 (omega arith) (omega arith)
 adds_at Start (suc (suc c)) h = adds 0 2 (omega arith) (omega arith)

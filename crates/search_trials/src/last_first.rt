@@ -3,7 +3,7 @@ ghost use Rattle.search_trials.specs.LastFirst.{is_before, no_later};
 
 use rulebook_order::VectorOrder;
 
-/// Whether `x` has the smaller number at the last place at which the two differ.
+// Whether `x` has the smaller number at the last place at which the two differ.
 fn is_before(x: &[u64], y: &[u64]) -> bool
     ensures { result ≡ is_before x.now y.now }
 {

@@ -21,8 +21,8 @@ use std::sync::ledger::{Blank, Ledger};
 use std::test::Fail;
 use violation_measures::{SceneSource, bind};
 
-// The vectors of the answers are those of the finals, in their order. No rule of the book has a final part, so that a
-// finished vector is the running one.
+// The vectors of the answers are those of the finals, in their order. No rule of the book has a
+// final part, so that a finished vector is the running one.
 fn same_vectors<S: Drop>(found: &Found<S>, checked: &Checked) -> Result<(), Fail> {
     let answers = checked.answers.as_slice();
     if found.finals.as_slice().len() != answers.len() {
@@ -42,7 +42,8 @@ fn same_vectors<S: Drop>(found: &Found<S>, checked: &Checked) -> Result<(), Fail
     Ok(())
 }
 
-// Searches the graph; writes the certificate, reads it again, and checks it. Gives how many labels and answers there are.
+// Searches the graph; writes the certificate, reads it again, and checks it. Gives how many labels
+// and answers there are.
 fn planned<G: StepGraph, L: Ledger>(
     alloc: Global,
     blank: Blank,

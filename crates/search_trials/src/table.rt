@@ -8,12 +8,12 @@ use preorder::Violation;
 use rulebook_order::{StepGraph, Steps};
 use std::sync::ledger::Ledger;
 
-/// A graph of five places that is written as a table: from `Start` by `Left` or `Right` to `End` or `Yard`. `Start` is a
-/// goal as well.
+/// A graph of five places that is written as a table: from `Start` by `Left` or `Right` to `End` or
+/// `Yard`. `Start` is a goal as well.
 #[derive(Drop)]
 pub struct Table;
 
-/// Adds two numbers to a vector of two.
+// Adds two numbers to a vector of two.
 fn add(cost: &mut Violation, first: u64, second: u64)
     requires width { length cost.old ≡ 2 }
     requires first { slice_index cost.old 0 + first < 2 ^ 64 }
@@ -24,12 +24,13 @@ fn add(cost: &mut Violation, first: u64, second: u64)
     cost.add_at(1, second);
 }
 
-/// Where a choice leads, and what it adds.
+// Where a choice leads, and what it adds.
 fn row(place: Place, choice: usize) -> (Place, u64, u64)
     requires { choice < choices_at place }
     ensures next { result.0 ≡ next_at place choice }
     ensures cost { result.1 ∷ result.2 ∷ [] ≡ cost_at place choice }
-    ensures room { (result.1 ≤ 3 * ticks_passed table place choice) × (result.2 ≤ 3 * ticks_passed table place choice) }
+    ensures room { (result.1 ≤ 3 * ticks_passed table place choice)
+        × (result.2 ≤ 3 * ticks_passed table place choice) }
 {
     match (place, choice) {
         (Place::Start, 0) => (Place::Left, 1, 0),

@@ -14,7 +14,8 @@ use std::marker::Brand;
 use std::sync::ledger::{Blank, Ledger};
 use std::test::Fail;
 
-/// Searches the fan, and checks the certificate of what was found. Gives how many labels, finals and answers there are.
+// Searches the fan, and checks the certificate of what was found. Gives how many labels, finals
+// and answers there are.
 fn searched<L: Ledger>(
     alloc: Global,
     blank: Blank,
@@ -47,7 +48,8 @@ fn a_fan_is_searched_and_checked(rt: HostRuntime) -> Result<(), Fail> {
     Ok(())
 }
 
-/// Searches the table, and gives the text of the certificate of what was found; none where there are too many labels.
+// Searches the table, and gives the text of the certificate of what was found; none where there
+// are too many labels.
 fn table_text<O: VectorOrder, L: Ledger>(
     alloc: Global,
     blank: Blank,
@@ -93,7 +95,8 @@ fn a_table_is_searched_by_two_orders(rt: HostRuntime) -> Result<(), Fail> {
     Ok(())
 }
 
-/// Reads a certificate of the table, and checks it by two rules of which neither is above the other.
+// Reads a certificate of the table, and checks it by two rules of which neither is above the
+// other.
 fn finding<L: Ledger>(
     alloc: Global,
     blank: Blank,
@@ -125,7 +128,8 @@ fn a_certificate_made_by_hand_is_accepted(rt: HostRuntime) -> Result<(), Fail> {
     Ok(())
 }
 
-/// The text of a certificate, from its lines of labels and links, and the numbers behind `finals` and `goals`.
+// The text of a certificate, from its lines of labels and links, and the numbers behind `finals`
+// and `goals`.
 fn text_of(
     alloc: Global,
     heads: &[u8],

@@ -2,42 +2,16 @@
 use Rattle.std.specs.Prelude.{◌≡◌, ℕ, ◌+◌, Bool, true, false, List, [], ◌∷◌, ◌++◌, length, Result, Ok, Err, IfErr}
 use Rattle.std.specs.Bool.{OnFalse}
 use Rattle.std.proofs.Common.{eqb, refl, sym, ap, ◌∙◌, arith, cond, subst}
-use Rattle.reading.specs.Reading.{◌>>=◌, Gives}
+use Rattle.reading.specs.Reading.{◌>>=◌, Gives, read_numbered}
+use Rattle.reading.proofs.FirstFault.{first_fault}
 use Rattle.reading.proofs.ReadingLaws.{handed_on}
 use Rattle.trajectory_judge.specs.Faults.{is_memory}
-use Rattle.trajectory_judge.specs.Records.{AreRecordsOf, IsFirstFaultyRow, is_of_file, no_runs, not_empty, read_rows, records_of, row_step}
+use Rattle.trajectory_judge.specs.Records.{AreRecordsOf, IsFirstFaultyRow, is_of_file, no_runs, not_empty, records_of, row_step}
 use Rattle.trajectory_judge.specs.Rows.{Row, is_header, rows_of, under_header}
 use Rattle.trajectory_judge.specs.declared.fault.RecordFault.{RecordFault}
 use Rattle.trajectory_judge.specs.declared.fault.RecordFault.TheVariants.{WrongHeader, Csv, BadName, BadNumber, UnknownManeuver, TickGap, DuplicateName, TooMany, Empty, NoMemory}
 use Rattle.trajectory_judge.specs.declared.records.Records.{Records}
 use Rattle.trajectory_judge.proofs.OnlyReading.{only_reading}
-
--- where reading stops
-record Stops (maneuvers : List (List ℕ)) (n : ℕ) (rows : List Row) (s : Records) (fault : RecordFault) : Type 0 where
-  before : List Row
-  row : Row
-  after : List Row
-  state : Records
-  cut : rows ≡ before ++ row ∷ after
-  fine : read_rows (row_step maneuvers) n before s ≡ Ok state
-  refused : row_step maneuvers (n + length before) row state ≡ Err fault
-
-at_row : (maneuvers : List (List ℕ)) (n : ℕ) (row : Row) (rows : List Row) (s : Records) (f : RecordFault) (r : Result Records RecordFault) → row_step maneuvers n row s ≡ r
-    → ((t : Records) → read_rows (row_step maneuvers) (n + 1) rows t ≡ Err f → Stops maneuvers (n + 1) rows t f)
-    → (r >>= read_rows (row_step maneuvers) (n + 1) rows) ≡ Err f → Stops maneuvers n (row ∷ rows) s f
-unfolding read_rows
-at_row maneuvers n row rows s f (Ok t) h again e =
-    let k = again t e in
-    let m : n + 1 + length k.before ≡ n + length (row ∷ k.before) = omega arith in
-    record { before = row ∷ k.before; row = k.row; after = k.after; state = k.state; cut = ap (λ (rs : List Row). row ∷ rs) k.cut; fine = rw h k.fine; refused = rw (← m) k.refused }
-at_row maneuvers n row rows s f (Err g) h again e =
-    let m : n + length {A = Row} [] ≡ n = omega arith in
-    record { before = []; row = row; after = rows; state = s; cut = refl; fine = refl; refused = rw m (h ∙ e) }
-
-stops : (maneuvers : List (List ℕ)) (n : ℕ) (rows : List Row) (s : Records) (f : RecordFault) → read_rows (row_step maneuvers) n rows s ≡ Err f → Stops maneuvers n rows s f
-unfolding read_rows
-stops maneuvers n [] s f e = absurd cc
-stops maneuvers n (row ∷ rows) s f e = at_row maneuvers n row rows s f (row_step maneuvers n row s) refl (λ t. stops maneuvers (n + 1) rows t f) e
 
 -- a fault that is no row's asks nothing
 of_file : (P : Type 0) (f : RecordFault) → is_of_file f ≡ true → OnFalse (is_of_file f) P
@@ -66,14 +40,17 @@ first_row maneuvers bytes f h = by (under_header (rows_of bytes)) refl h
     none t true e = let is : Empty ≡ f = cc in rw (← is) refl
     none t false e = absurd cc
 
-    read : (rows : List Row) → under_header (rows_of bytes) ≡ Ok rows → (r : Result Records RecordFault) → read_rows (row_step maneuvers) 1 rows no_runs ≡ r → (r >>= not_empty) ≡ Err f → OnFalse (is_of_file f) (IsFirstFaultyRow maneuvers bytes f)
+    read : (rows : List Row) → under_header (rows_of bytes) ≡ Ok rows → (r : Result Records RecordFault) → read_numbered (row_step maneuvers) 1 rows no_runs ≡ r → (r >>= not_empty) ≡ Err f → OnFalse (is_of_file f) (IsFirstFaultyRow maneuvers bytes f)
     read rows header (Ok t) e k = of_file (IsFirstFaultyRow maneuvers bytes f) f (none t (eqb (length t.runs) 0) k)
     read rows header (Err g) e k =
-        let s = stops maneuvers 1 rows no_runs f (e ∙ k) in
-        row_or_file (is_of_file f) (record { before = s.before; row = s.row; after = s.after; state = s.state; cut = header ∙ ap (λ (rs : List Row). Ok rs) s.cut; fine = s.fine; refused = s.refused })
+        row_or_file (is_of_file f) (record {
+          rows = rows;
+          header = header;
+          first = first_fault (row_step maneuvers) 1 rows no_runs f (e ∙ k);
+        })
 
-    by : (r : Result (List Row) RecordFault) → under_header (rows_of bytes) ≡ r → (r >>= λ rows. read_rows (row_step maneuvers) 1 rows no_runs >>= not_empty) ≡ Err f → OnFalse (is_of_file f) (IsFirstFaultyRow maneuvers bytes f)
-    by (Ok rows) e k = read rows e (read_rows (row_step maneuvers) 1 rows no_runs) refl k
+    by : (r : Result (List Row) RecordFault) → under_header (rows_of bytes) ≡ r → (r >>= λ rows. read_numbered (row_step maneuvers) 1 rows no_runs >>= not_empty) ≡ Err f → OnFalse (is_of_file f) (IsFirstFaultyRow maneuvers bytes f)
+    by (Ok rows) e k = read rows e (read_numbered (row_step maneuvers) 1 rows no_runs) refl k
     by (Err g) e k = of_file (IsFirstFaultyRow maneuvers bytes f) f (subst (λ (x : RecordFault). is_of_file x ≡ true) (same_fault f g k) (wrong_header (rows_of bytes) g e))
 
 or_free : (P : Type 0) (f : RecordFault) → OnFalse (is_memory f) (OnFalse (is_of_file f) P) → OnFalse (is_of_file f) P

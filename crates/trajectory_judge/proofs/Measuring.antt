@@ -15,24 +15,10 @@ use Rattle.rulebook_order.specs.declared.verdict.Verdict.{Verdict}
 use Rattle.violation_measures.specs.Sources.{Features}
 use Rattle.violation_measures.specs.Vectors.{end_after, trajectory_vector, value_at, width}
 use Rattle.violation_measures.specs.declared.bound.Bound.{Bound}
-use Rattle.trajectory_judge.specs.Judgements.{later_pairs, measured, places}
+use Rattle.trajectory_judge.specs.Judgements.{measured, places}
+use Rattle.rulebook_order.specs.Pairs.{later_pairs}
 use Rattle.trajectory_judge.specs.declared.records.Records.{Records}
 use Rattle.trajectory_judge.specs.declared.records.Recording.{Recording}
-
--- a recorded step is in the ranges of a step
-pub step_is : (m : ℕ) (step : Step) → IsRecordedStep m step → IsStep step
-step_is m step is = record {
-  tick = omega (arith, is.drive.tick);
-  x = omega (arith, is.drive.x);
-  y = omega (arith, is.drive.y);
-  heading = omega (arith, is.drive.heading);
-  speed = is.drive.speed;
-  accel = is.drive.accel;
-  turn = is.drive.turn;
-}
-
-pub steps_are : (m : ℕ) (run : Recording) → IsRecording m run → All IsStep run.steps
-steps_are m run is k d inside = step_is m (get_or run.steps k d) (is.steps k d inside)
 
 -- one item more, and what is made of it
 pub grown : {A X Y : Type 0} (f : A → Y) (h : X → Y) (made : List A) (a : A) (xs : List X) (i : ℕ) (d : X) → i < length xs → map f made ≡ map h (take i xs) → f a ≡ h (get_or xs i d)

@@ -9,12 +9,12 @@ use Rattle.std.proofs.lemmas.Slice.Eq.{bytes_eq-Decides}
 use Rattle.std.proofs.lemmas.Option.{get_or_from_slice_get, slice_get-get_or, slice_get_within}
 use Rattle.std.proofs.Math.ListN.{get_or-append}
 use Rattle.std.proofs.Math.Seq.{get_or-append_seam}
-use Rattle.reading.specs.Reading.{◌>>=◌}
+use Rattle.reading.specs.Reading.{◌>>=◌, read_numbered}
 use Rattle.rule_language.specs.Names.{AreDifferent, has_name}
 use Rattle.rulebook_order.proofs.Lists.{slice_get-snoc}
 use Rattle.violation_measures.specs.declared.step.Step.{Step}
 use Rattle.trajectory_judge.specs.Fields.{said}
-use Rattle.trajectory_judge.specs.Records.{AreRecordsOf, AreRuns, IsRecording, TicksRiseByOne, after_last, all_steps, beginning, each_said, going_on, is_next, last_of, name_of, no_runs, read_rows, records_of, row_step, with_step}
+use Rattle.trajectory_judge.specs.Records.{AreRecordsOf, AreRuns, IsRecording, TicksRiseByOne, after_last, all_steps, beginning, each_said, going_on, is_next, last_of, name_of, no_runs, records_of, row_step, with_step}
 use Rattle.trajectory_judge.specs.Rows.{Row}
 use Rattle.trajectory_judge.specs.declared.fault.RecordFault.{RecordFault}
 use Rattle.trajectory_judge.specs.declared.limits.TheConstants.{MAX_RECORDINGS, MAX_RECORDED_STEPS}
@@ -26,26 +26,26 @@ add_all : ℕ → List (List ℕ × Step) → Records → Result Records RecordF
 add_all n [] s = Ok s
 add_all n (p ∷ ps) s = with_step n p.0 p.1 s >>= add_all (n + 1) ps
 
-rows_add : (maneuvers : List (List ℕ)) (n : ℕ) (rows : List Row) (ps : List (List ℕ × Step)) (s : Records) → each_said maneuvers n rows ≡ Ok ps → read_rows (row_step maneuvers) n rows s ≡ add_all n ps s
-unfolding each_said row_step read_rows add_all
+rows_add : (maneuvers : List (List ℕ)) (n : ℕ) (rows : List Row) (ps : List (List ℕ × Step)) (s : Records) → each_said maneuvers n rows ≡ Ok ps → read_numbered (row_step maneuvers) n rows s ≡ add_all n ps s
+unfolding each_said row_step read_numbered add_all
 rows_add maneuvers n [] ps s h = let none : [] ≡ ps = cc in rw (← none) refl
 rows_add maneuvers n (row ∷ rows) ps s h = by (said maneuvers n row) refl h (λ qs u k. rows_add maneuvers (n + 1) rows qs u k)
   where
     later : (p : List ℕ × Step) → said maneuvers n row ≡ Ok p → (r : Result (List (List ℕ × Step)) RecordFault) → each_said maneuvers (n + 1) rows ≡ r → (r >>= λ qs. Ok (p ∷ qs)) ≡ Ok ps
-        → ((qs : List (List ℕ × Step)) (u : Records) → each_said maneuvers (n + 1) rows ≡ Ok qs → read_rows (row_step maneuvers) (n + 1) rows u ≡ add_all (n + 1) qs u)
-        → ((said maneuvers n row >>= λ p. with_step n p.0 p.1 s) >>= read_rows (row_step maneuvers) (n + 1) rows) ≡ add_all n ps s
+        → ((qs : List (List ℕ × Step)) (u : Records) → each_said maneuvers (n + 1) rows ≡ Ok qs → read_numbered (row_step maneuvers) (n + 1) rows u ≡ add_all (n + 1) qs u)
+        → ((said maneuvers n row >>= λ p. with_step n p.0 p.1 s) >>= read_numbered (row_step maneuvers) (n + 1) rows) ≡ add_all n ps s
     later p e (Ok qs) f k again =
         let is : p ∷ qs ≡ ps = cc in
         rw (← is, e) (step_by (with_step n p.0 p.1 s))
       where
-        step_by : (r : Result Records RecordFault) → (r >>= read_rows (row_step maneuvers) (n + 1) rows) ≡ (r >>= add_all (n + 1) qs)
+        step_by : (r : Result Records RecordFault) → (r >>= read_numbered (row_step maneuvers) (n + 1) rows) ≡ (r >>= add_all (n + 1) qs)
         step_by (Ok u) = again qs u f
         step_by (Err fault) = refl
     later p e (Err fault) f k again = absurd cc
 
     by : (r : Result (List ℕ × Step) RecordFault) → said maneuvers n row ≡ r → (r >>= λ p. each_said maneuvers (n + 1) rows >>= λ ps. Ok (p ∷ ps)) ≡ Ok ps
-        → ((qs : List (List ℕ × Step)) (u : Records) → each_said maneuvers (n + 1) rows ≡ Ok qs → read_rows (row_step maneuvers) (n + 1) rows u ≡ add_all (n + 1) qs u)
-        → ((said maneuvers n row >>= λ p. with_step n p.0 p.1 s) >>= read_rows (row_step maneuvers) (n + 1) rows) ≡ add_all n ps s
+        → ((qs : List (List ℕ × Step)) (u : Records) → each_said maneuvers (n + 1) rows ≡ Ok qs → read_numbered (row_step maneuvers) (n + 1) rows u ≡ add_all (n + 1) qs u)
+        → ((said maneuvers n row >>= λ p. with_step n p.0 p.1 s) >>= read_numbered (row_step maneuvers) (n + 1) rows) ≡ add_all n ps s
     by (Ok p) e k again = later p e (each_said maneuvers (n + 1) rows) refl k again
     by (Err fault) e k again = absurd cc
 
@@ -143,6 +143,6 @@ runs_all m n before (run ∷ more) are =
 pub only_reading : (maneuvers : List (List ℕ)) (bytes : List ℕ) (records : Records) → AreRecordsOf maneuvers bytes records → records_of maneuvers bytes ≡ Ok records
 unfolding records_of
 only_reading maneuvers bytes records are =
-    let read : read_rows (row_step maneuvers) 1 are.rows no_runs ≡ Ok records = rows_add maneuvers 1 are.rows (all_steps records.runs) no_runs are.say ∙ runs_all (length maneuvers) 1 [] records.runs are.well_formed.runs in
+    let read : read_numbered (row_step maneuvers) 1 are.rows no_runs ≡ Ok records = rows_add maneuvers 1 are.rows (all_steps records.runs) no_runs are.say ∙ runs_all (length maneuvers) 1 [] records.runs are.well_formed.runs in
     let some : eqb (length records.runs) 0 ≡ false = false_from_ne_true _ (λ t. omega (arith, eqb-true _ _ t, are.well_formed.some)) in
     rw (are.header, read, some) refl

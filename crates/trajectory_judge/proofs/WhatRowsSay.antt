@@ -5,12 +5,12 @@ use Rattle.std.proofs.Common.{eqb, refl, sym, ap, ◌∙◌, arith, append_assoc
 use Rattle.std.proofs.lemmas.List.{append-nil, map-append}
 use Rattle.std.proofs.lemmas.Slice.Eq.{bytes_eq-Decides}
 use Rattle.std.proofs.lemmas.Option.{slice_get_within}
-use Rattle.reading.specs.Reading.{◌>>=◌, Gives}
+use Rattle.reading.specs.Reading.{◌>>=◌, Gives, read_numbered}
 use Rattle.rule_language.specs.Names.{has_name}
 use Rattle.violation_measures.specs.declared.step.Step.{Step}
 use Rattle.trajectory_judge.specs.Faults.{is_memory}
 use Rattle.trajectory_judge.specs.Fields.{said}
-use Rattle.trajectory_judge.specs.Records.{AreRecords, AreRecordsOf, after_last, all_steps, beginning, each_said, going_on, is_next, last_of, name_of, no_runs, not_empty, read_rows, records_of, row_step, with_step}
+use Rattle.trajectory_judge.specs.Records.{AreRecords, AreRecordsOf, after_last, all_steps, beginning, each_said, going_on, is_next, last_of, name_of, no_runs, not_empty, records_of, row_step, with_step}
 use Rattle.trajectory_judge.specs.Rows.{Row, rows_of, under_header}
 use Rattle.trajectory_judge.specs.declared.fault.RecordFault.{RecordFault}
 use Rattle.trajectory_judge.specs.declared.fault.RecordFault.TheVariants.{TickGap, DuplicateName, TooMany, Empty}
@@ -108,13 +108,13 @@ pub record HaveSaid (maneuvers : List (List ℕ)) (n : ℕ) (rows : List Row) (s
   pub say : each_said maneuvers n rows ≡ Ok steps
   pub grown : all_steps t.runs ≡ all_steps s.runs ++ steps
 
-pub rows_say : (maneuvers : List (List ℕ)) (n : ℕ) (rows : List Row) (s t : Records) → read_rows (row_step maneuvers) n rows s ≡ Ok t → HaveSaid maneuvers n rows s t
-unfolding each_said row_step read_rows
+pub rows_say : (maneuvers : List (List ℕ)) (n : ℕ) (rows : List Row) (s t : Records) → read_numbered (row_step maneuvers) n rows s ≡ Ok t → HaveSaid maneuvers n rows s t
+unfolding each_said row_step read_numbered
 rows_say maneuvers n [] s t h = let same : s ≡ t = cc in record { steps = []; say = refl; grown = ap (λ (u : Records). all_steps u.runs) (sym same) ∙ sym (append-nil (all_steps s.runs)) }
 rows_say maneuvers n (row ∷ rows) s t h = by (said maneuvers n row) refl h (λ u k. rows_say maneuvers (n + 1) rows u t k)
   where
-    after_step : (p : Named) → said maneuvers n row ≡ Ok p → (r : Result Records RecordFault) → with_step n p.0 p.1 s ≡ r → (r >>= read_rows (row_step maneuvers) (n + 1) rows) ≡ Ok t
-        → ((u : Records) → read_rows (row_step maneuvers) (n + 1) rows u ≡ Ok t → HaveSaid maneuvers (n + 1) rows u t) → HaveSaid maneuvers n (row ∷ rows) s t
+    after_step : (p : Named) → said maneuvers n row ≡ Ok p → (r : Result Records RecordFault) → with_step n p.0 p.1 s ≡ r → (r >>= read_numbered (row_step maneuvers) (n + 1) rows) ≡ Ok t
+        → ((u : Records) → read_numbered (row_step maneuvers) (n + 1) rows u ≡ Ok t → HaveSaid maneuvers (n + 1) rows u t) → HaveSaid maneuvers n (row ∷ rows) s t
     after_step p e (Ok u) f k again =
         let rest = again u k in
         record {
@@ -124,8 +124,8 @@ rows_say maneuvers n (row ∷ rows) s t h = by (said maneuvers n row) refl h (λ
         }
     after_step p e (Err fault) f k again = absurd cc
 
-    by : (r : Result Named RecordFault) → said maneuvers n row ≡ r → ((r >>= λ p. with_step n p.0 p.1 s) >>= read_rows (row_step maneuvers) (n + 1) rows) ≡ Ok t
-        → ((u : Records) → read_rows (row_step maneuvers) (n + 1) rows u ≡ Ok t → HaveSaid maneuvers (n + 1) rows u t) → HaveSaid maneuvers n (row ∷ rows) s t
+    by : (r : Result Named RecordFault) → said maneuvers n row ≡ r → ((r >>= λ p. with_step n p.0 p.1 s) >>= read_numbered (row_step maneuvers) (n + 1) rows) ≡ Ok t
+        → ((u : Records) → read_numbered (row_step maneuvers) (n + 1) rows u ≡ Ok t → HaveSaid maneuvers (n + 1) rows u t) → HaveSaid maneuvers n (row ∷ rows) s t
     by (Ok p) e k again = after_step p e (with_step n p.0 p.1 s) refl k again
     by (Err fault) e k again = absurd cc
 
@@ -138,9 +138,9 @@ what_is_read maneuvers bytes records h are = by (under_header (rows_of bytes)) r
     kept (Ok t) e = (passed (eqb (length t.runs) 0) Empty (Ok t) records e).rest
     kept (Err fault) e = absurd cc
 
-    by : (r : Result (List Row) RecordFault) → under_header (rows_of bytes) ≡ r → (r >>= λ rows. read_rows (row_step maneuvers) 1 rows no_runs >>= not_empty) ≡ Ok records → AreRecordsOf maneuvers bytes records
+    by : (r : Result (List Row) RecordFault) → under_header (rows_of bytes) ≡ r → (r >>= λ rows. read_numbered (row_step maneuvers) 1 rows no_runs >>= not_empty) ≡ Ok records → AreRecordsOf maneuvers bytes records
     by (Ok rows) e k =
-        let says = rows_say maneuvers 1 rows no_runs records (kept (read_rows (row_step maneuvers) 1 rows no_runs) k) in
+        let says = rows_say maneuvers 1 rows no_runs records (kept (read_numbered (row_step maneuvers) 1 rows no_runs) k) in
         record { rows = rows; header = e; say = says.say ∙ ap (λ (ps : List Named). Ok ps) (sym says.grown); well_formed = are }
     by (Err fault) e k = absurd cc
 

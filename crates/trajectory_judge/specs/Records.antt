@@ -1,24 +1,30 @@
--- The recordings of a file, or its first fault. Rows that follow one another under one name are a recording.
+-- The recordings of a file, or its first fault. Rows that follow one another under one name are a
+-- recording.
 -- This project's own.
-use Rattle.std.specs.Prelude.{◌≡◌, ◌≢◌, ℕ, ◌+◌, ◌-◌, ◌<◌, ◌≤◌, ◌++◌, Bool, true, false, not, List, [], ◌∷◌, length, map, All, Option, Some, None, IfSome, Result, Ok, Err, ◌==◌, nat_le, if◌then◌else◌, IsTrue, slice_get, slice_index_or, slice_set, unsigned_abs}
+use Rattle.std.specs.Prelude.{◌≡◌, ◌≢◌, ℕ, ◌+◌, ◌-◌, ◌<◌, ◌≤◌, ◌++◌, Bool, true, false, not, List}
+use Rattle.std.specs.Prelude.{[], ◌∷◌, length, map, All, Option, Some, None, IfSome, Result, Ok}
+use Rattle.std.specs.Prelude.{Err, ◌==◌, nat_le, if◌then◌else◌, IsTrue, slice_get, slice_index_or}
+use Rattle.std.specs.Prelude.{slice_set, unsigned_abs}
 use Rattle.std.specs.Str.{bytes_eq}
 use Rattle.preorder.specs.Name.{is_name}
-use Rattle.reading.specs.Reading.{◌>>=◌}
+use Rattle.reading.specs.Reading.{◌>>=◌, read_numbered, IsFirstFault}
 use Rattle.rule_language.specs.Names.{AreDifferent, has_name}
 use Rattle.violation_measures.specs.declared.step.Step.{Step}
 use Rattle.trajectory_judge.specs.Fields.{said}
 use Rattle.trajectory_judge.specs.Rows.{COLUMNS, Row, rows_left, rows_of, under_header}
 use Rattle.trajectory_judge.specs.declared.fault.RecordFault.{RecordFault}
-use Rattle.trajectory_judge.specs.declared.fault.RecordFault.TheVariants.{WrongHeader, Csv, TickGap, DuplicateName, TooMany, Empty, NoMemory}
-use Rattle.trajectory_judge.specs.declared.limits.TheConstants.{MAX_RECORDINGS, MAX_RECORDED_STEPS, MAX_RECORDED_TICK, MAX_RECORDED_COORDINATE, MAX_RECORDED_HEADING, MAX_RECORDED_SPEED, MAX_RECORDED_TURN}
+use Rattle.trajectory_judge.specs.declared.fault.RecordFault.TheVariants.{WrongHeader, Csv, TickGap}
+use Rattle.trajectory_judge.specs.declared.fault.RecordFault.TheVariants.{DuplicateName, TooMany}
+use Rattle.trajectory_judge.specs.declared.fault.RecordFault.TheVariants.{Empty, NoMemory}
+use Rattle.trajectory_judge.specs.declared.limits.TheConstants.{MAX_RECORDINGS, MAX_RECORDED_STEPS}
+use Rattle.trajectory_judge.specs.declared.limits.TheConstants.{MAX_RECORDED_TICK}
+use Rattle.trajectory_judge.specs.declared.limits.TheConstants.{MAX_RECORDED_COORDINATE}
+use Rattle.trajectory_judge.specs.declared.limits.TheConstants.{MAX_RECORDED_HEADING}
+use Rattle.trajectory_judge.specs.declared.limits.TheConstants.{MAX_RECORDED_SPEED}
+use Rattle.trajectory_judge.specs.declared.limits.TheConstants.{MAX_RECORDED_TURN}
 use Rattle.trajectory_judge.specs.declared.records.Recording.{Recording}
 use Rattle.trajectory_judge.specs.declared.records.Records.{Records}
 use Rattle.trajectory_judge.specs.declared.rows.Rows.{Rows}
-
--- Reads rows one after the other, the first of them the n-th of its file, from what was read so far.
-unfoldable pub read_rows : {S F : Type 0} → (ℕ → Row → S → Result S F) → ℕ → List Row → S → Result S F
-read_rows step n [] s = Ok s
-read_rows step n (row ∷ rows) s = step n row s >>= read_rows step (n + 1) rows
 
 abbrev pub name_of : Recording → List ℕ
 name_of run = run.name
@@ -33,7 +39,8 @@ is_next None step = false
 is_next (Some last) step = step.tick == last.tick + 1
 
 -- row n goes on with the last recording
-unfoldable pub going_on : ℕ → Step → Recording → List Recording → Result (List Recording) RecordFault
+unfoldable pub going_on : ℕ → Step → Recording → List Recording
+    → Result (List Recording) RecordFault
 going_on n step run runs =
     if not (is_next (last_of run.steps) step) then Err (TickGap n)
     else if nat_le MAX_RECORDED_STEPS (length run.steps) then Err (TooMany n)
@@ -47,13 +54,17 @@ beginning n name step runs =
     else Ok (runs ++ (record { name = name; steps = step ∷ [] }) ∷ [])
 
 -- after the last recording, if there is one: row n goes on with it where it has its name
-abbrev pub after_last : ℕ → List ℕ → Step → Option Recording → List Recording → Result (List Recording) RecordFault
+abbrev pub after_last : ℕ → List ℕ → Step → Option Recording → List Recording
+    → Result (List Recording) RecordFault
 after_last n name step None runs = beginning n name step runs
-after_last n name step (Some run) runs = if bytes_eq run.name name then going_on n step run runs else beginning n name step runs
+after_last n name step (Some run) runs =
+    if bytes_eq run.name name then going_on n step run runs else beginning n name step runs
 
 -- the recordings with the step that row n says under the name
 unfoldable pub with_step : ℕ → List ℕ → Step → Records → Result Records RecordFault
-with_step n name step records = after_last n name step (last_of records.runs) records.runs >>= λ runs. Ok (record { runs = runs })
+with_step n name step records =
+    after_last n name step (last_of records.runs) records.runs
+    >>= λ runs. Ok (record { runs = runs })
 
 -- row n, after the rows before it
 unfoldable pub row_step : List (List ℕ) → ℕ → Row → Records → Result Records RecordFault
@@ -70,7 +81,7 @@ not_empty records = if length records.runs == 0 then Err Empty else Ok records
 unfoldable pub records_of : List (List ℕ) → List ℕ → Result Records RecordFault
 records_of maneuvers bytes =
     under_header (rows_of bytes) >>= λ rows.
-    read_rows (row_step maneuvers) 1 rows no_runs >>= not_empty
+    read_numbered (row_step maneuvers) 1 rows no_runs >>= not_empty
 
 -- a step in the ranges of a recording
 pub record IsDrive (step : Step) : Type 0 where
@@ -89,7 +100,9 @@ pub record IsRecordedStep (maneuvers : ℕ) (step : Step) : Type 0 where
 
 -- each tick is the one after the tick before it
 abbrev pub TicksRiseByOne : List Step → Type 0
-TicksRiseByOne steps = (i : ℕ) (d : Step) → i + 1 < length steps → (slice_index_or steps (i + 1) d).tick ≡ (slice_index_or steps i d).tick + 1
+TicksRiseByOne steps =
+    (i : ℕ) (d : Step) → i + 1 < length steps → (slice_index_or steps (i + 1) d).tick
+    ≡ (slice_index_or steps i d).tick + 1
 
 -- a well-formed recording, whose maneuvers are among so many
 pub record IsRecording (maneuvers : ℕ) (run : Recording) : Type 0 where
@@ -112,20 +125,25 @@ pub record AreRecords (maneuvers : ℕ) (records : Records) : Type 0 where
 
 -- the next row, of this number, has not nine fields
 abbrev pub IsCut : Rows → ℕ → RecordFault → Type 0
-IsCut rows n fault = (row : Row) × (rest : List Row) × (rows_left rows ≡ row ∷ rest) × (length row ≢ COLUMNS) × (fault ≡ Csv n)
+IsCut rows n fault =
+    (row : Row) × (rest : List Row) × (rows_left rows ≡ row ∷ rest) × (length row ≢ COLUMNS)
+    × (fault ≡ Csv n)
 
 -- what each row says, the first of them the n-th
 unfoldable pub each_said : List (List ℕ) → ℕ → List Row → Result (List (List ℕ × Step)) RecordFault
 each_said maneuvers n [] = Ok []
-each_said maneuvers n (row ∷ rows) = said maneuvers n row >>= λ p. each_said maneuvers (n + 1) rows >>= λ ps. Ok (p ∷ ps)
+each_said maneuvers n (row ∷ rows) =
+    said maneuvers n row >>= λ p. each_said maneuvers (n + 1) rows >>= λ ps. Ok (p ∷ ps)
 
 -- each step of each recording, under its recording's name
 abbrev pub all_steps : List Recording → List (List ℕ × Step)
 all_steps [] = []
-all_steps (run ∷ runs) = map {A = Step} {B = List ℕ × Step} (λ step. (run.name, step)) run.steps ++ all_steps runs
+all_steps (run ∷ runs) =
+    map {A = Step} {B = List ℕ × Step} (λ step. (run.name, step)) run.steps ++ all_steps runs
 
 -- the recordings are well formed, and their steps are what the rows of the file say, in its order
-pub record AreRecordsOf (maneuvers : List (List ℕ)) (bytes : List ℕ) (records : Records) : Type 0 where
+pub record AreRecordsOf (maneuvers : List (List ℕ)) (bytes : List ℕ)
+    (records : Records) : Type 0 where
   pub rows : List Row
   pub header : under_header (rows_of bytes) ≡ Ok rows
   pub say : each_said maneuvers 1 rows ≡ Ok (all_steps records.runs)
@@ -138,12 +156,10 @@ is_of_file Empty = true
 is_of_file NoMemory = true
 is_of_file _ = false
 
--- the first faulty row of a file: the rows before it were all read, and then it was refused, by its number and what was read so far
-pub record IsFirstFaultyRow (maneuvers : List (List ℕ)) (bytes : List ℕ) (fault : RecordFault) : Type 0 where
-  pub before : List Row
-  pub row : Row
-  pub after : List Row
-  pub state : Records
-  pub cut : under_header (rows_of bytes) ≡ Ok (before ++ row ∷ after)
-  pub fine : read_rows (row_step maneuvers) 1 before no_runs ≡ Ok state
-  pub refused : row_step maneuvers (1 + length before) row state ≡ Err fault
+-- the first faulty row of a file: the rows before it were all read, and then it was refused, by its
+-- number and what was read so far
+pub record IsFirstFaultyRow (maneuvers : List (List ℕ)) (bytes : List ℕ)
+    (fault : RecordFault) : Type 0 where
+  pub rows : List Row
+  pub header : under_header (rows_of bytes) ≡ Ok rows
+  pub first : IsFirstFault (row_step maneuvers) 1 rows no_runs fault

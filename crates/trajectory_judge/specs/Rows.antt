@@ -1,8 +1,12 @@
--- The rows of a file of recordings. What a record of comma-separated values is, is what `csv` promises of its reader
--- with the defaults: RFC 4180, with a byte order mark left out and empty lines skipped.
-use Rattle.std.specs.Prelude.{◌≡◌, ◌≢◌, ℕ, ◌+◌, Bool, false, ◌&&◌, List, [], ◌∷◌, length, Option, Some, None, IfSome, IsSome, Result, Ok, Err, if◌then◌else◌, codes}
+-- The rows of a file of recordings. What a record of comma-separated values is, is what `csv`
+-- promises of its reader with the defaults: RFC 4180, with a byte order mark left out and empty
+-- lines skipped.
+use Rattle.std.specs.Prelude.{◌≡◌, ◌≢◌, ℕ, ◌+◌, Bool, false, ◌&&◌, List, [], ◌∷◌, length, Option}
+use Rattle.std.specs.Prelude.{Some, None, IfSome, IsSome, Result, Ok, Err, if◌then◌else◌, codes}
 use Rattle.std.specs.Str.{bytes_eq}
-use Rattle.csv.specs.Reading.{default_config, records, records_from, strip_bom, source_of, reader_config, reader_state, reader_trim, is_flexible, expected_len, Ready}
+use Rattle.csv.specs.Reading.{default_config, records, records_from, strip_bom, source_of}
+use Rattle.csv.specs.Reading.{reader_config, reader_state, reader_trim, is_flexible, expected_len}
+use Rattle.csv.specs.Reading.{Ready}
 use Rattle.csv.specs.Records.{fields_of}
 use Rattle.csv.specs.declared.parser.State.{State}
 use Rattle.csv.specs.declared.reader.Trim.TheVariants as trim
@@ -26,8 +30,10 @@ COLUMNS = 9
 -- each field is the name of its column
 unfoldable pub is_header : Row → Bool
 is_header (name ∷ tick ∷ x ∷ y ∷ heading ∷ speed ∷ accel ∷ turn ∷ maneuver ∷ []) =
-    bytes_eq name (codes "name") && (bytes_eq tick (codes "tick") && (bytes_eq x (codes "x") && (bytes_eq y (codes "y") && (bytes_eq heading (codes "heading")
-    && (bytes_eq speed (codes "speed") && (bytes_eq accel (codes "accel") && (bytes_eq turn (codes "turn") && bytes_eq maneuver (codes "maneuver"))))))))
+    bytes_eq name (codes "name") && (bytes_eq tick (codes "tick")
+    && (bytes_eq x (codes "x") && (bytes_eq y (codes "y") && (bytes_eq heading (codes "heading")
+    && (bytes_eq speed (codes "speed") && (bytes_eq accel (codes "accel")
+    && (bytes_eq turn (codes "turn") && bytes_eq maneuver (codes "maneuver"))))))))
 is_header _ = false
 
 -- the rows under the header
@@ -37,7 +43,9 @@ under_header (first ∷ rows) = if is_header first then Ok rows else Err WrongHe
 
 -- the row of these fields
 abbrev pub columns : Fields → Row
-columns f = f.name.now ∷ f.tick.now ∷ f.x.now ∷ f.y.now ∷ f.heading.now ∷ f.speed.now ∷ f.accel.now ∷ f.turn.now ∷ f.maneuver.now ∷ []
+columns f =
+    f.name.now ∷ f.tick.now ∷ f.x.now ∷ f.y.now ∷ f.heading.now ∷ f.speed.now ∷ f.accel.now
+    ∷ f.turn.now ∷ f.maneuver.now ∷ []
 
 -- the rows from a state of the reader
 unfoldable pub rows_from : State → Option (List ℕ) → List Row
@@ -63,10 +71,10 @@ row_width rows = expected_len rows.reader
 -- rows are taken as they stand, and each has as many fields as the first
 pub record IsOpen (rows : Rows) : Type 0 where
   pub plain : reader_config rows.reader ≡ default_config
-  pub whole : reader_trim rows.reader ≡ trim.None
+  pub untrimmed : reader_trim rows.reader ≡ trim.None
   pub even : is_flexible rows.reader ≡ false
   pub ready : Ready rows.reader
-  pub known : IsSome (bytes_left rows)
+  pub told : IsSome (bytes_left rows)
 
 -- a row was taken
 pub record GotRow (old new : Rows) : Type 0 where

@@ -3,8 +3,8 @@ ghost use Rattle.trajectory_judge.specs.declared.fault.RecordFault.TheVariants a
 
 use preorder::NoMemory;
 
-/// Why bytes are no recordings. A number is that of the first faulty row, counted from 1 after the header. Of the faults
-/// of a row, the one that stands first here is named.
+/// Why bytes are no recordings. A number is that of the first faulty row, counted from 1 after the
+/// header. Of the faults of a row, the one that stands first here is named.
 #[derive(Clone, Copy, Debug, PartialEq, Eq)]
 pub enum RecordFault {
     /// The first row is not the names of the columns, or there is none.
@@ -21,7 +21,8 @@ pub enum RecordFault {
     TickGap(usize),
     /// It has the name of a recording that has ended.
     DuplicateName(usize),
-    /// There are `MAX_RECORDINGS` recordings before it, or `MAX_RECORDED_STEPS` steps of its own recording.
+    /// There are `MAX_RECORDINGS` recordings before it, or `MAX_RECORDED_STEPS` steps of its own
+    /// recording.
     TooMany(usize),
     /// There is no row after the header.
     Empty,

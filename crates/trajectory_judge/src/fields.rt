@@ -1,11 +1,13 @@
-ghost use Rattle.std.specs.Prelude.{◌≡◌, ◌≤◌, ◌<◌, length, IsTrue, IfOk, IfSome, unsigned_abs, None};
+ghost use Rattle.std.specs.Prelude.{◌≡◌, ◌≤◌, ◌<◌, length, IsTrue, IfOk, IfSome, unsigned_abs};
+ghost use Rattle.std.specs.Prelude.{None};
 ghost use Rattle.std.specs.List.{position};
 ghost use Rattle.std.specs.Str.{bytes_eq};
 ghost use Rattle.preorder.specs.Name.{is_name};
 ghost use Rattle.reading.specs.Reading.{Gives};
 ghost use Rattle.violation_measures.specs.declared.scene_source.TheConstants.{MAX_MANEUVERS};
 ghost use Rattle.trajectory_judge.specs.Faults.{is_memory};
-ghost use Rattle.trajectory_judge.specs.Fields.{name_in, measure, tick_in, drive_in, maneuver_in, said_by, said};
+ghost use Rattle.trajectory_judge.specs.Fields.{name_in, measure, tick_in, drive_in, maneuver_in};
+ghost use Rattle.trajectory_judge.specs.Fields.{said_by, said};
 ghost use Rattle.trajectory_judge.specs.Records.{IsDrive, IsRecordedStep};
 ghost use Rattle.trajectory_judge.specs.Rows.{columns};
 
@@ -57,7 +59,8 @@ fn tick_in(row: usize, text: &[u8]) -> Result<u32, RecordFault>
 }
 
 fn coordinate_in(row: usize, text: &[u8]) -> Result<i64, RecordFault>
-    ensures exact { Gives is_memory (λ n. n) result (measure row 4 MAX_RECORDED_COORDINATE text.now) }
+    ensures exact { Gives is_memory (λ n. n) result
+        (measure row 4 MAX_RECORDED_COORDINATE text.now) }
     ensures size { IfOk result (λ n. unsigned_abs n ≤ MAX_RECORDED_COORDINATE) }
 {
     measure(row, 4, MAX_RECORDED_COORDINATE, text)
@@ -73,7 +76,8 @@ fn speed_in(row: usize, text: &[u8]) -> Result<i64, RecordFault>
 // Where the vehicle is and how it drives, without its maneuver.
 #[tactic(auto, unfolding(crate::specs::Fields::drive_in))]
 fn drive_in(row: usize, fields: &Fields<'_>) -> Result<Step, RecordFault>
-    ensures exact { Gives is_memory (λ s. s) result (drive_in row fields.now.tick.now fields.now.x.now fields.now.y.now
+    ensures exact { Gives is_memory (λ s. s) result
+        (drive_in row fields.now.tick.now fields.now.x.now fields.now.y.now
         fields.now.heading.now fields.now.speed.now fields.now.accel.now fields.now.turn.now) }
     ensures sound { IfOk result IsDrive }
 {

@@ -1,8 +1,12 @@
 //! Recorded trajectories: their file, and how they stand to one another under a book.
 //!
-//! The layer above uses that `read_records` gives the recordings of `specs/Records.antt`, or the first fault in the order that stands there, and that these are the only well-formed ones whose steps are what the rows say (`AreRecordsOf`); a row is read as `specs/Fields.antt` says.
-//! Of `judge` it uses that each recording has its vector, its layer by chains (`specs/Layers.antt`), and the verdict on each pair (`specs/Judgements.antt`).
-//! What the records of a file are, is what `csv` promises (`specs/Rows.antt`); its calls stand in `src/rows.rt` alone.
+//! The layer above uses that `read_records` gives the recordings of `specs/Records.antt`, or the
+//! first fault in the order that stands there, and that these are the only well-formed ones whose
+//! steps are what the rows say (`AreRecordsOf`); a row is read as `specs/Fields.antt` says.
+//! Of `judge` it uses that each recording has its vector, its layer by chains
+//! (`specs/Layers.antt`), and the verdict on each pair (`specs/Judgements.antt`).
+//! What the records of a file are, is what `csv` promises (`specs/Rows.antt`); its calls stand in
+//! `src/rows.rt` alone.
 #![tactic(auto)]
 
 mod fault;

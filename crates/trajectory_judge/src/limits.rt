@@ -13,7 +13,8 @@ pub const MAX_RECORDED_COORDINATE: u64 = 100_000_000_000;
 /// The largest heading of a recording in size, in microradians.
 pub const MAX_RECORDED_HEADING: u64 = 1_000_000_000;
 
-/// The largest speed of a recording in size in mm/s, and the largest acceleration in mm/s each second.
+/// The largest speed of a recording in size in mm/s, and the largest acceleration in mm/s each
+/// second.
 pub const MAX_RECORDED_SPEED: u64 = 1_000_000;
 
 /// The fastest turn of a recording in size, in microradians each second.

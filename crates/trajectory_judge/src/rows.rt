@@ -1,9 +1,12 @@
-ghost use Rattle.std.specs.Prelude.{◌≡◌, ◌<◌, ◌≤◌, ◌^◌, length, true, false, IsTrue, [], Some, None, IfOk, IfErr};
+ghost use Rattle.std.specs.Prelude.{◌≡◌, ◌<◌, ◌≤◌, ◌^◌, length, true, false, IsTrue, [], Some};
+ghost use Rattle.std.specs.Prelude.{None, IfOk, IfErr};
 ghost use Rattle.std.specs.Bool.{OnFalse};
 ghost use Rattle.csv.specs.Records.{fields_of, field_at};
 ghost use Rattle.reading.specs.Reading.{Gives};
 ghost use Rattle.trajectory_judge.specs.Faults.{is_memory};
-ghost use Rattle.trajectory_judge.specs.Rows.{COLUMNS, columns, is_header, rows_left, row_of, row_width, rows_of, under_header, IsOpen, GotRow, IsUneven};
+ghost use Rattle.trajectory_judge.specs.Rows.{COLUMNS, columns, is_header, rows_left, row_of};
+ghost use Rattle.trajectory_judge.specs.Rows.{row_width, rows_of, under_header, IsOpen, GotRow};
+ghost use Rattle.trajectory_judge.specs.Rows.{IsUneven};
 ghost use Rattle.trajectory_judge.specs.declared.rows.RowFault.TheVariants as fault;
 
 use crate::fault::RecordFault;
@@ -40,7 +43,7 @@ pub struct Fields<'a> {
     pub maneuver: &'a [u8],
 }
 
-/// Whether each field is the name of its column.
+// Whether each field is the name of its column.
 #[tactic(auto, unfolding(crate::specs::Rows::is_header))]
 fn is_header(fields: &Fields<'_>) -> bool
     ensures { result ≡ is_header (columns fields.now) }
@@ -56,7 +59,7 @@ fn is_header(fields: &Fields<'_>) -> bool
         && fields.maneuver == b"maneuver".as_slice()
 }
 
-/// The field at a place.
+// The field at a place.
 fn field(row: &ByteRecord, place: usize) -> &[u8]
     requires { place < length (fields_of row.now) }
     ensures { field_at (fields_of row.now) place ≡ Some result.now }
@@ -75,7 +78,7 @@ fn prove_short(bytes: &[u8])
 }
 
 impl<'a> Rows<'a> {
-    /// All rows of some bytes.
+    // All rows of some bytes.
     fn of(alloc: Global, bytes: &'a [u8]) -> Rows<'a>
         ensures open { IsOpen result }
         ensures left { rows_left result ≡ rows_of bytes.now }
@@ -125,7 +128,7 @@ impl<'a> Rows<'a> {
         }
     }
 
-    /// Whether the row that was taken last is the header.
+    // Whether the row that was taken last is the header.
     #[tactic(auto, using(crate::proofs::Columns::no_header))]
     fn is_at_header(&self) -> bool
         ensures exact { result ≡ is_header (row_of self.now) }

@@ -9,7 +9,7 @@ use Rattle.expressions.specs.declared.tree.Expr.TheViews.{roll-Expr}
 use Rattle.expressions.specs.declared.tree.Expr.TheOpen.{Expr-F}
 use Rattle.expressions.specs.declared.tree.Expr.TheFolds.{fold-roll-Expr, ind-Expr, map-Expr, para-roll-Expr}
 use Rattle.expressions.specs.Written.{is_from_to, is_well_formed, well_formed_step}
-use Rattle.expressions.proofs.Lexemes.{both}
+use Rattle.reading.proofs.Truth.{both}
 use Rattle.violation_measures.specs.Values.{Valuation, value, value_step}
 use Rattle.scenario_model.specs.declared.problem.Span.{Span}
 use Rattle.violation_measures.specs.Intervals.{IsIn, Bounds, interval, interval_step, is_small, keeps, every, keeps_step, all_keep}

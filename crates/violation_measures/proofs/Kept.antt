@@ -7,7 +7,7 @@ use Rattle.expressions.specs.declared.tree.Expr.TheViews.{roll-Expr}
 use Rattle.expressions.specs.declared.tree.Expr.TheOpen.{Expr-F}
 use Rattle.expressions.specs.declared.tree.Expr.TheFolds.{fold-roll-Expr, ind-Expr, map-Expr, para-roll-Expr}
 use Rattle.expressions.specs.Written.{is_from_to, is_well_formed, well_formed_step}
-use Rattle.expressions.proofs.Lexemes.{both}
+use Rattle.reading.proofs.Truth.{both}
 use Rattle.scenario_model.specs.declared.problem.Span.{Span}
 use Rattle.violation_measures.specs.Intervals.{Bounds, from_to, absolute, product, interval, interval_step, keeps, every, keeps_step, all_keep}
 use Rattle.violation_measures.specs.Ranges.{on_one, on_two, negated, summed, differing, lesser, greater, hull, choice, quotients, ranged, ranged_step}

@@ -12,7 +12,7 @@ use Rattle.rule_language.specs.declared.book.Rule.{Rule}
 use Rattle.rule_language.specs.declared.part.Part.{Part}
 use Rattle.rulebook_order.specs.StepGraph.{HasRoom}
 use Rattle.rulebook_order.specs.Sums.{sums}
-use Rattle.violation_measures.specs.declared.bound.adding.TheConstants.{MAX_AMOUNT}
+use Rattle.violation_measures.specs.declared.amount.TheConstants.{MAX_AMOUNT, MAX_PART_AMOUNT, MAX_PART_VALUE}
 use Rattle.violation_measures.specs.Amounts.{part_value, weighted, rule_value, end_value, IsBoundPart}
 use Rattle.violation_measures.specs.Binding.{IsBoundRule, IsBoundTo}
 use Rattle.violation_measures.specs.Sources.{Features, at_step}
@@ -72,25 +72,25 @@ vector_whole f bound steps last =
 
 -- ---- sizes
 
-part_small : (z : ℤ) → part_value z ≤ 10 ^ 9
+part_small : (z : ℤ) → part_value z ≤ MAX_PART_VALUE
 part_small (pos n) = omega arith
 part_small (negsuc n) = omega arith
 
-weighted_small : (f : Features) (v : Valuation) (part : Part) → IsBoundPart f part → weighted v part ≤ 10 ^ 15
+weighted_small : (f : Features) (v : Valuation) (part : Part) → IsBoundPart f part → weighted v part ≤ MAX_PART_AMOUNT
 weighted_small f v part h = weighted_fits part.weight (part_value (value v part.expr)) h.weight (part_small (value v part.expr))
 
-either_small : (b : Bool) (n : ℕ) → n ≤ 10 ^ 15 → (cond b n 0 ≤ 10 ^ 15) × (cond b 0 n ≤ 10 ^ 15)
+either_small : (b : Bool) (n : ℕ) → n ≤ MAX_PART_AMOUNT → (cond b n 0 ≤ MAX_PART_AMOUNT) × (cond b 0 n ≤ MAX_PART_AMOUNT)
 either_small true n h = (h, omega arith)
 either_small false n h = (omega arith, h)
 
 pub rule_small : (f : Features) (v : Valuation) (rule : Rule) → IsBoundRule f rule → rule_value v rule.parts ≤ MAX_AMOUNT
 rule_small f v rule h =
-    let all = sum_by-le (λ part. cond part.at_end 0 (weighted v part)) (10 ^ 15) rule.parts (λ i part within. (either_small _ _ (weighted_small f v _ (h.parts i part within))).1) in
+    let all = sum_by-le (λ part. cond part.at_end 0 (weighted v part)) MAX_PART_AMOUNT rule.parts (λ i part within. (either_small _ _ (weighted_small f v _ (h.parts i part within))).1) in
     omega (arith, all, h.few)
 
 pub end_small : (f : Features) (v : Valuation) (rule : Rule) → IsBoundRule f rule → end_value v rule.parts ≤ MAX_AMOUNT
 end_small f v rule h =
-    let all = sum_by-le (λ part. cond part.at_end (weighted v part) 0) (10 ^ 15) rule.parts (λ i part within. (either_small _ _ (weighted_small f v _ (h.parts i part within))).0) in
+    let all = sum_by-le (λ part. cond part.at_end (weighted v part) 0) MAX_PART_AMOUNT rule.parts (λ i part within. (either_small _ _ (weighted_small f v _ (h.parts i part within))).0) in
     omega (arith, all, h.few)
 
 pub width_fits : (f : Features) (bound : Bound) → IsBoundTo f bound → IsWidth (width bound)

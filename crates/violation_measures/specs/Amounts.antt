@@ -1,4 +1,5 @@
--- What the parts of a rule amount to at a step, and at the end. This project's own, for the rulebooks of Censi and others, 2019.
+-- What the parts of a rule amount to at a step, and at the end. This project's own, for the
+-- rulebooks of Censi and others, 2019.
 use Rattle.std.specs.Prelude.{ℕ, ◌≤◌, ◌*◌, ℤ, pos, negsuc, min, List, IsTrue, if◌then◌else◌}
 use Rattle.std.specs.List.{sum_by}
 use Rattle.expressions.specs.Written.{is_well_formed}
@@ -26,7 +27,8 @@ rule_value feature parts = sum_by (λ part. if part.at_end then 0 else weighted 
 abbrev pub end_value : Valuation → List Part → ℕ
 end_value feature parts = sum_by (λ part. if part.at_end then weighted feature part else 0) parts
 
--- a part that a book may hold, with its features known and the intervals of its subexpressions at most 10^18 in size
+-- a part that a book may hold, with its features known and the intervals of its subexpressions at
+-- most 10^18 in size
 pub record IsBoundPart (f : Features) (part : Part) : Type 0 where
   pub weight : part.weight ≤ MAX_WEIGHT
   pub well_formed : IsTrue (is_well_formed part.expr)

@@ -2,7 +2,8 @@
 use Rattle.std.specs.Prelude.{◌≡◌, ℕ, ◌<◌, ◌≤◌, List, [], length, take, All, IsTrue, slice_index_or}
 use Rattle.expressions.specs.Written.{is_well_formed}
 use Rattle.rule_language.specs.declared.book.Rule.{Rule}
-use Rattle.rule_language.specs.declared.limits.TheConstants.{MAX_PARTS, MAX_RULES, MAX_WEIGHT}
+use Rattle.rule_language.specs.declared.limits.TheConstants.{MAX_PARTS, MAX_WEIGHT}
+use Rattle.preorder.specs.declared.limits.TheConstants.{MAX_RULES}
 use Rattle.rule_language.specs.declared.part.Part.{Part}
 use Rattle.violation_measures.specs.Amounts.{IsBoundPart}
 use Rattle.violation_measures.specs.Intervals.{all_known, all_keep}
@@ -12,7 +13,8 @@ use Rattle.violation_measures.specs.declared.bind_fault.BindFault.{BindFault}
 use Rattle.violation_measures.specs.declared.bind_fault.BindFault.TheVariants as fault
 use Rattle.violation_measures.specs.declared.bound.Bound.{Bound}
 
--- the part names only features that the source knows, and the interval of no subexpression passes 10^18
+-- the part names only features that the source knows, and the interval of no subexpression passes
+-- 10^18
 pub record MayBind (f : Features) (part : Part) : Type 0 where
   pub known : IsTrue (all_known f.find part.expr)
   pub keeps : IsTrue (all_keep (bounds_of f) part.expr)
@@ -47,8 +49,10 @@ HasFirst f Bad rule = (j : ℕ) × IsFirst (MayBind f) Bad rule.parts j
 -- the fault is that of the first rule that may not be bound
 abbrev pub IsFaultOf : Features → List Rule → BindFault → Type 0
 IsFaultOf f rules (fault.BareRule i) = IsFirst (RuleMayBind f) IsBare rules i
-IsFaultOf f rules (fault.UnknownFeature i) = IsFirst (RuleMayBind f) (HasFirst f (NamesUnknown f)) rules i
-IsFaultOf f rules (fault.RangeTooLarge i) = IsFirst (RuleMayBind f) (HasFirst f (IsTooLarge f)) rules i
+IsFaultOf f rules (fault.UnknownFeature i) =
+    IsFirst (RuleMayBind f) (HasFirst f (NamesUnknown f)) rules i
+IsFaultOf f rules (fault.RangeTooLarge i) =
+    IsFirst (RuleMayBind f) (HasFirst f (IsTooLarge f)) rules i
 IsFaultOf f rules fault.NoMemory = Unit {0}
 
 -- what a part of any book keeps to
@@ -70,8 +74,10 @@ IsFaultOfPart f i part fault.NoMemory = ⊥
 
 abbrev pub IsFaultOfParts : Features → ℕ → List Part → BindFault → Type 0
 IsFaultOfParts f i parts (fault.BareRule k) = ⊥
-IsFaultOfParts f i parts (fault.UnknownFeature k) = (k ≡ i) × ((j : ℕ) × IsFirst (MayBind f) (NamesUnknown f) parts j)
-IsFaultOfParts f i parts (fault.RangeTooLarge k) = (k ≡ i) × ((j : ℕ) × IsFirst (MayBind f) (IsTooLarge f) parts j)
+IsFaultOfParts f i parts (fault.UnknownFeature k) =
+    (k ≡ i) × ((j : ℕ) × IsFirst (MayBind f) (NamesUnknown f) parts j)
+IsFaultOfParts f i parts (fault.RangeTooLarge k) =
+    (k ≡ i) × ((j : ℕ) × IsFirst (MayBind f) (IsTooLarge f) parts j)
 IsFaultOfParts f i parts fault.NoMemory = ⊥
 
 abbrev pub IsFaultOfRule : Features → ℕ → Rule → BindFault → Type 0

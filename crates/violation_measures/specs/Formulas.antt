@@ -1,5 +1,6 @@
 -- Expressions as they are worked out at each step, and what they are made from. This project's own.
-use Rattle.std.specs.Prelude.{ℕ, ℤ, pos, ◌+ℤ◌, ◌-ℤ◌, ◌*ℤ◌, neg_ℤ, unsigned_abs, ◌==◌, List, Option, Some, None}
+use Rattle.std.specs.Prelude.{ℕ, ℤ, pos, ◌+ℤ◌, ◌-ℤ◌, ◌*ℤ◌, neg_ℤ, unsigned_abs, ◌==◌, List, Option}
+use Rattle.std.specs.Prelude.{Some, None}
 use Rattle.std.specs.Int.{int_min, int_max}
 use Rattle.std.specs.List.{position}
 use Rattle.expressions.specs.declared.tree.Argument.{Argument}
@@ -39,7 +40,8 @@ formula_step measured feature (Formula-F.Two operation a b) = of_two (on_numbers
 formula_step measured feature (Formula-F.If a b c) = chosen a b c
 formula_step measured feature (Formula-F.Div a n) = divided a n
 
--- the value over what is measured at each place, and over the value of each feature, where no value on the way passes 10^18 in size
+-- the value over what is measured at each place, and over the value of each feature, where no value
+-- on the way passes 10^18 in size
 abbrev pub formula_value : (ℕ → ℤ) → Valuation → Formula → Option ℤ
 formula_value measured feature = fold-Formula (Option ℤ) (formula_step measured feature)
 
@@ -68,7 +70,8 @@ abbrev pub one : Unary → Formula → Formula
 one operation a = worked_out (of_one (on_number operation) (constant a)) (formula.One operation a)
 
 abbrev pub two : Binary → Formula → Formula → Formula
-two operation a b = worked_out (of_two (on_numbers operation) (constant a) (constant b)) (formula.Two operation a b)
+two operation a b =
+    worked_out (of_two (on_numbers operation) (constant a) (constant b)) (formula.Two operation a b)
 
 abbrev pub choice : Formula → Formula → Formula → Formula
 choice a b c = worked_out (chosen (constant a) (constant b) (constant c)) (formula.If a b c)
@@ -91,7 +94,8 @@ feature_at None name argument = formula.Asked name argument
 
 abbrev pub resolved_step : Find → List ℕ → Expr-F Formula → Formula
 resolved_step find used (Expr-F.Const n) = formula.Const n
-resolved_step find used (Expr-F.Feature name argument) = feature_at (place_among used (find name argument)) name argument
+resolved_step find used (Expr-F.Feature name argument) =
+    feature_at (place_among used (find name argument)) name argument
 resolved_step find used (Expr-F.Neg a) = one unary.Neg a
 resolved_step find used (Expr-F.Abs a) = one unary.Abs a
 resolved_step find used (Expr-F.Add a b) = two binary.Add a b

@@ -1,5 +1,7 @@
 -- The interval of an expression, from the bounds of features. This project's own.
-use Rattle.std.specs.Prelude.{ℕ, ℤ, pos, ◌+ℤ◌, ◌-ℤ◌, ◌*ℤ◌, ◌≤ℤ◌, neg_ℤ, unsigned_abs, int_div, int_le, Bool, true, ◌&&◌, nat_le, List, Option, is_some, if◌then◌else◌}
+use Rattle.std.specs.Prelude.{ℕ, ℤ, pos, ◌+ℤ◌, ◌-ℤ◌, ◌*ℤ◌, ◌≤ℤ◌, neg_ℤ, unsigned_abs, int_div}
+use Rattle.std.specs.Prelude.{int_le, Bool, true, ◌&&◌, nat_le, List, Option, is_some}
+use Rattle.std.specs.Prelude.{if◌then◌else◌}
 use Rattle.std.specs.Int.{int_min, int_max}
 use Rattle.scenario_model.specs.declared.problem.Span.{Span}
 use Rattle.expressions.specs.declared.tree.Argument.{Argument}
@@ -29,8 +31,10 @@ absolute a =
 -- the least and greatest of the four products of ends
 abbrev pub product : Span → Span → Span
 product a b = from_to
-    (int_min (int_min (a.low *ℤ b.low) (a.low *ℤ b.high)) (int_min (a.high *ℤ b.low) (a.high *ℤ b.high)))
-    (int_max (int_max (a.low *ℤ b.low) (a.low *ℤ b.high)) (int_max (a.high *ℤ b.low) (a.high *ℤ b.high)))
+    (int_min (int_min (a.low *ℤ b.low) (a.low *ℤ b.high))
+    (int_min (a.high *ℤ b.low) (a.high *ℤ b.high)))
+    (int_max (int_max (a.low *ℤ b.low) (a.low *ℤ b.high))
+    (int_max (a.high *ℤ b.low) (a.high *ℤ b.high)))
 
 -- one operation on the intervals of its parts
 abbrev pub interval_step : Bounds → Expr-F Span → Span
@@ -72,7 +76,9 @@ every (Expr-F.If a b c) = a && (b && c)
 every (Expr-F.Div a n) = a
 
 abbrev pub keeps_step : Bounds → Expr-F (Expr × Bool) → Bool
-keeps_step bounds x = keeps (interval_step bounds (map-Expr (Expr × Bool) Span (λ p. interval bounds p.0) x)) && every (map-Expr (Expr × Bool) Bool (λ p. p.1) x)
+keeps_step bounds x =
+    keeps (interval_step bounds (map-Expr (Expr × Bool) Span (λ p. interval bounds p.0) x))
+    && every (map-Expr (Expr × Bool) Bool (λ p. p.1) x)
 
 -- whether the interval of no subexpression passes 10^18 in size
 abbrev pub all_keep : Bounds → Expr → Bool

@@ -1,5 +1,6 @@
 -- The sources of the tests: one feature, with bounds 0 to 1; and a hundred features.
-use Rattle.std.proofs.Common.{ℕ, ℤ, pos, Bool, true, false, cond, ◌&&◌, ◌==◌, ◌%◌, Option, Some, None, arith}
+use Rattle.std.proofs.Common.{ℕ, ℤ, pos, Bool, true, false, cond, ◌&&◌, ◌==◌, ◌%◌, Option, Some}
+use Rattle.std.proofs.Common.{None, arith}
 use Rattle.std.specs.Prelude.{codes, is_none, nat_lt, min}
 use Rattle.std.specs.Str.{bytes_eq}
 use Rattle.std.proofs.lemmas.Int.{ints}

@@ -1,5 +1,7 @@
--- What is measured once a step, or once at the end: the features that the parts of a book name, each once. This project's own.
-use Rattle.std.specs.Prelude.{◌≡◌, ◌<◌, ℕ, ℤ, pos, ◌==◌, ◌||◌, Bool, not, nat_le, List, [], ◌∷◌, ◌++◌, length, Option, Some, None, slice_index_or, if◌then◌else◌}
+-- What is measured once a step, or once at the end: the features that the parts of a book name,
+-- each once. This project's own.
+use Rattle.std.specs.Prelude.{◌≡◌, ◌<◌, ℕ, ℤ, pos, ◌==◌, ◌||◌, Bool, not, nat_le, List, [], ◌∷◌}
+use Rattle.std.specs.Prelude.{◌++◌, length, Option, Some, None, slice_index_or, if◌then◌else◌}
 use Rattle.std.specs.List.{fold, flat_map, list_any}
 use Rattle.expressions.specs.declared.tree.Expr.{Expr}
 use Rattle.expressions.specs.declared.tree.Expr.TheOpen.{Expr-F}
@@ -40,14 +42,17 @@ is_of_kind at_end part = if at_end then part.at_end else not part.at_end
 
 -- those of the parts of a kind
 abbrev pub part_numbers : Find → Bool → List Part → List ℕ
-part_numbers find at_end = flat_map (λ part. if is_of_kind at_end part then numbers find part.expr else [])
+part_numbers find at_end =
+    flat_map (λ part. if is_of_kind at_end part then numbers find part.expr else [])
 
 abbrev pub rule_numbers : Find → Bool → List Rule → List ℕ
 rule_numbers find at_end = flat_map (λ rule. part_numbers find at_end rule.parts)
 
 -- one number more, where it is new and there is room
 abbrev pub noted : List ℕ → ℕ → List ℕ
-noted used n = if nat_le MAX_MEASURED (length used) || list_any (λ m. m == n) used then used else used ++ n ∷ []
+noted used n =
+    if nat_le MAX_MEASURED (length used) || list_any (λ m. m == n) used then used
+    else used ++ n ∷ []
 
 -- the numbers of the first features that the parts of a kind name, each once
 unfoldable pub used_by : Find → Bool → List Rule → List ℕ
@@ -61,4 +66,5 @@ measured_at values place = slice_index_or values place (pos 0)
 
 -- at the place of each number stands the value at the step
 pub record IsMeasured (f : Features) (step : Step) (used : List ℕ) (values : List ℤ) : Type 0 where
-  pub each : (place : ℕ) → place < length used → measured_at values place ≡ f.value (slice_index_or used place 0) step
+  pub each : (place : ℕ) → place < length used → measured_at values place
+      ≡ f.value (slice_index_or used place 0) step

@@ -1,5 +1,7 @@
 -- The features of a scene: the table of their names, values and bounds. This project's own.
-use Rattle.std.specs.Prelude.{◌≡◌, ◌↔◌, ℕ, ◌+◌, ◌-◌, ◌<◌, ℤ, pos, neg_ℤ, Bool, false, not, ◌==◌, List, count_by, Option, Some, None, IsSome, if◌then◌else◌, codes, nat_lt}
+use Rattle.std.specs.Prelude.{◌≡◌, ◌↔◌, ℕ, ◌+◌, ◌-◌, ◌<◌, ℤ, pos, neg_ℤ, Bool, false, not, ◌==◌}
+use Rattle.std.specs.Prelude.{List, count_by, Option, Some, None, IsSome, if◌then◌else◌, codes}
+use Rattle.std.specs.Prelude.{nat_lt}
 use Rattle.std.specs.List.{list_any, position}
 use Rattle.std.specs.Option.{option_map}
 use Rattle.std.specs.Str.{bytes_eq}
@@ -17,11 +19,15 @@ use Rattle.violation_measures.specs.Intervals.{from_to}
 use Rattle.violation_measures.specs.Sources.{Features}
 use Rattle.violation_measures.specs.declared.feature.Feature.{Feature}
 use Rattle.violation_measures.specs.declared.feature.Feature.TheVariants as feature
-use Rattle.violation_measures.specs.declared.feature.TheConstants.{FIRST_LANELET, FIRST_MANEUVER, PAST_FEATURES, MAX_OBSTACLES, MAX_LANELETS, MAX_DISTANCE}
+use Rattle.violation_measures.specs.declared.feature.TheConstants.{FIRST_LANELET, FIRST_MANEUVER}
+use Rattle.violation_measures.specs.declared.feature.TheConstants.{PAST_FEATURES}
+use Rattle.scenario_model.specs.declared.limits.TheConstants.{MAX_OBSTACLES, MAX_LANELETS}
+use Rattle.moving_obstacles.specs.declared.limits.TheConstants.{MAX_DISTANCE}
 use Rattle.violation_measures.specs.declared.step.Step.{Step}
 use Rattle.violation_measures.specs.declared.step.TheConstants.{MAX_TICK, MAX_SPEED, MAX_TURN}
 
--- the lanelets, what the obstacles take up at each tick, the size of the ego vehicle, and the names of the maneuvers
+-- the lanelets, what the obstacles take up at each tick, the size of the ego vehicle, and the names
+-- of the maneuvers
 pub record Scene : Type 0 where
   pub lanes : List Lane
   -- how many obstacles meet a polygon at a tick
@@ -81,22 +87,27 @@ plain name =
 
 -- in the lanelet with the id, which is known
 unfoldable pub in_lanelet : List Lane → List ℕ → ℕ → Option Feature
-in_lanelet lanes name id = if bytes_eq name (codes "in_lanelet") then option_map feature.InLanelet (position (has_id id) lanes) else None
+in_lanelet lanes name id =
+    if bytes_eq name (codes "in_lanelet") then option_map feature.InLanelet
+    (position (has_id id) lanes) else None
 
 -- the maneuver of the name, which is one of the names
 unfoldable pub maneuver : List (List ℕ) → List ℕ → List ℕ → Option Feature
-maneuver names name about = if bytes_eq name (codes "maneuver") then option_map feature.Maneuver (position (λ other. bytes_eq other about) names) else None
+maneuver names name about =
+    if bytes_eq name (codes "maneuver") then option_map feature.Maneuver
+    (position (λ other. bytes_eq other about) names) else None
 
 -- the feature of a name and an argument, and none for all else
-abbrev pub known : Scene → List ℕ → Option Argument → Option Feature
-known scene name None = plain name
-known scene name (Some (Number id)) = in_lanelet scene.lanes name id
-known scene name (Some (Named about)) = maneuver scene.maneuvers name about
+abbrev pub feature_named : Scene → List ℕ → Option Argument → Option Feature
+feature_named scene name None = plain name
+feature_named scene name (Some (Number id)) = in_lanelet scene.lanes name id
+feature_named scene name (Some (Named about)) = maneuver scene.maneuvers name about
 
 -- the value at a step
 abbrev pub value_in : Scene → Feature → Step → ℤ
 value_in scene feature.Overlaps step = pos (scene.meeting (ego scene step) step.tick)
-value_in scene feature.OffRoad step = pos (count_by (λ corner. not (list_any (holds corner) scene.lanes)) (ego scene step))
+value_in scene feature.OffRoad step =
+    pos (count_by (λ corner. not (list_any (holds corner) scene.lanes)) (ego scene step))
 value_in scene feature.Lanes step = pos (count_at scene.lanes (center step))
 value_in scene feature.WrongWay step = one_if (is_against scene.lanes (center step) step.heading)
 value_in scene feature.Speed step = step.speed
@@ -104,7 +115,8 @@ value_in scene feature.Accel step = step.accel
 value_in scene feature.Turn step = step.turn
 value_in scene feature.Tick step = pos step.tick
 value_in scene feature.Gap step = scene.nearest_gap (bounds (ego scene step)) step.tick
-value_in scene feature.Headway step = scene.headway (center step) step.heading scene.ego_width step.tick
+value_in scene feature.Headway step =
+    scene.headway (center step) step.heading scene.ego_width step.tick
 value_in scene (feature.InLanelet place) step = one_if (holds_at scene.lanes place (center step))
 value_in scene (feature.Maneuver place) step = one_if (is_driven step.maneuver place)
 
@@ -167,15 +179,24 @@ numbered n =
 -- what a source of the scene's features answers
 abbrev pub features_of : Scene → Features
 features_of scene = record {
-  find = λ name argument. option_map number (known scene name argument);
+  find = λ name argument. option_map number (feature_named scene name argument);
   bounds = λ n. bounds_in (numbered n);
   value = λ n step. value_in scene (numbered n) step;
 }
 
--- the source knows exactly the features of the scene's table, each with its value and its bounds there; each has a number of its own, below 10,000
+-- the source knows exactly the features of the scene's table, each with its value and its bounds
+-- there; each has a number of its own, below 10,000
 pub record HasTable (scene : Scene) (f : Features) : Type 0 where
-  pub exactly : (name : List ℕ) (argument : Option Argument) → IsSome (f.find name argument) ↔ IsSome (known scene name argument)
-  pub value : (name : List ℕ) (argument : Option Argument) (n : ℕ) (row : Feature) → f.find name argument ≡ Some n → known scene name argument ≡ Some row → (step : Step) → f.value n step ≡ value_in scene row step
-  pub bounds : (name : List ℕ) (argument : Option Argument) (n : ℕ) (row : Feature) → f.find name argument ≡ Some n → known scene name argument ≡ Some row → f.bounds n ≡ bounds_in row
-  pub small : (name : List ℕ) (argument : Option Argument) (n : ℕ) → f.find name argument ≡ Some n → n < PAST_FEATURES
-  pub own : (name other : List ℕ) (argument another : Option Argument) (n : ℕ) → f.find name argument ≡ Some n → f.find other another ≡ Some n → (name ≡ other) × (argument ≡ another)
+  pub exactly : (name : List ℕ) (argument : Option Argument) → IsSome (f.find name argument)
+      ↔ IsSome (feature_named scene name argument)
+  pub value : (name : List ℕ) (argument : Option Argument) (n : ℕ) (row : Feature)
+      → f.find name argument ≡ Some n → feature_named scene name argument ≡ Some row → (step : Step)
+      → f.value n step ≡ value_in scene row step
+  pub bounds : (name : List ℕ) (argument : Option Argument) (n : ℕ) (row : Feature)
+      → f.find name argument ≡ Some n → feature_named scene name argument ≡ Some row
+      → f.bounds n ≡ bounds_in row
+  pub small : (name : List ℕ) (argument : Option Argument) (n : ℕ) → f.find name argument ≡ Some n
+      → n < PAST_FEATURES
+  pub own : (name other : List ℕ) (argument another : Option Argument) (n : ℕ)
+      → f.find name argument ≡ Some n → f.find other another ≡ Some n
+      → (name ≡ other) × (argument ≡ another)

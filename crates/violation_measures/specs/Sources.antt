@@ -8,7 +8,8 @@ use Rattle.violation_measures.specs.Values.{Valuation}
 use Rattle.violation_measures.specs.declared.source.TheConstants.{MAX_BOUND}
 use Rattle.violation_measures.specs.declared.step.Step.{Step}
 
--- what the calls of a source answer: the number of a feature by its name and argument, and its bounds and value by its number
+-- what the calls of a source answer: the number of a feature by its name and argument, and its
+-- bounds and value by its number
 pub record Features : Type 0 where
   pub find : List ℕ → Option Argument → Option ℕ
   pub bounds : ℕ → Span
@@ -18,16 +19,19 @@ pub record Features : Type 0 where
 abbrev pub IsKnown : Features → ℕ → Type 0
 IsKnown f n = (name : List ℕ) × (argument : Option Argument) × (f.find name argument ≡ Some n)
 
--- the bounds of each feature keep to 10^12 on either side of 0, and its value at each step lies in them
+-- the bounds of each feature keep to 10^12 on either side of 0, and its value at each step lies in
+-- them
 pub record AreSound (f : Features) : Type 0 where
   pub least : (n : ℕ) → IsKnown f n → neg_ℤ MAX_BOUND ≤ℤ (f.bounds n).low
   pub ordered : (n : ℕ) → IsKnown f n → (f.bounds n).low ≤ℤ (f.bounds n).high
   pub most : (n : ℕ) → IsKnown f n → (f.bounds n).high ≤ℤ MAX_BOUND
-  pub within : (n : ℕ) (step : Step) → IsKnown f n → IsStep step → IsIn (f.bounds n) (f.value n step)
+  pub within : (n : ℕ) (step : Step) → IsKnown f n → IsStep step
+      → IsIn (f.bounds n) (f.value n step)
 
 -- two sources give the same answer to every find, and the same bounds; their values may differ
 pub record AreAlike (a b : Features) : Type 0 where
-  pub find : (name : List ℕ) (argument : Option Argument) → b.find name argument ≡ a.find name argument
+  pub find : (name : List ℕ) (argument : Option Argument)
+      → b.find name argument ≡ a.find name argument
   pub bounds : (n : ℕ) → IsKnown a n → b.bounds n ≡ a.bounds n
 
 abbrev pub value_found : (ℕ → ℤ) → Option ℕ → ℤ
@@ -48,4 +52,6 @@ bounds_of f = λ name argument. bounds_found f.bounds (f.find name argument)
 
 -- the values of the features lie in their bounds
 abbrev pub AreWithin : Bounds → Valuation → Type 0
-AreWithin bounds feature = (name : List ℕ) (argument : Option Argument) → IsIn (bounds name argument) (feature name argument)
+AreWithin bounds feature =
+    (name : List ℕ) (argument : Option Argument) → IsIn (bounds name argument)
+    (feature name argument)

@@ -1,6 +1,7 @@
 -- Steps of a trajectory. The ranges are this project's own.
 use Rattle.std.specs.Prelude.{◌≤◌, pos, unsigned_abs, None}
-use Rattle.violation_measures.specs.declared.step.TheConstants.{MAX_TICK, MAX_COORDINATE, MAX_HEADING, MAX_SPEED, MAX_TURN}
+use Rattle.violation_measures.specs.declared.step.TheConstants.{MAX_TICK, MAX_COORDINATE}
+use Rattle.violation_measures.specs.declared.step.TheConstants.{MAX_HEADING, MAX_SPEED, MAX_TURN}
 use Rattle.violation_measures.specs.declared.step.Step.{Step}
 
 pub record IsStep (step : Step) : Type 0 where

@@ -50,4 +50,5 @@ end_after f (Some last) rule = end_at f last rule
 -- for each rule its number in the run, and its end value at the finish of the last step
 unfoldable pub trajectory_vector : Features → Bound → List Step → List ℕ
 trajectory_vector f bound steps =
-    for_each_rule bound (λ rule. sum_by (λ step. value_at f step rule) steps + end_after f (last_or None steps) rule)
+    for_each_rule bound (λ rule. sum_by (λ step. value_at f step rule) steps
+    + end_after f (last_or None steps) rule)

@@ -15,6 +15,12 @@ use rule_language::{MAX_PARTS, MAX_WEIGHT};
 /// The most that a part counts at a step.
 pub const MAX_PART_VALUE: u64 = 1_000_000_000;
 
+/// The most that a part adds at a step, or at the end: `MAX_WEIGHT` times `MAX_PART_VALUE`.
+pub const MAX_PART_AMOUNT: u64 = 1_000_000_000_000_000;
+
+/// The most that a step, or the end, adds to a number of a vector: `MAX_PARTS` such parts.
+pub const MAX_AMOUNT: u64 = 8_000_000_000_000_000;
+
 fn cut_to_range(value: i128) -> u64
     ensures exact { result ≡ part_value value }
     ensures small { result ≤ MAX_PART_VALUE }
@@ -29,7 +35,8 @@ fn cut_to_range(value: i128) -> u64
 // What a part counts at a step. No value of a part that is bound is too large to be there.
 fn counted<S: FeatureSource>(source: &S, step: &Step, values: &[i64], part: &BoundPart) -> u64
     requires { IsStep step.now }
-    ensures exact { result ≡ counted (formula_value (measured_at values.now) (at_step (S.features source.now) step.now) part.now.formula) }
+    ensures exact { result ≡ counted (formula_value (measured_at values.now)
+        (at_step (S.features source.now) step.now) part.now.formula) }
     ensures small { result ≤ MAX_PART_VALUE }
 {
     match value_of(source, step, values, &part.formula) {
@@ -43,7 +50,7 @@ fn scaled(weight: u64, value: u64) -> u64
     requires weight { weight ≤ MAX_WEIGHT }
     requires value { value ≤ MAX_PART_VALUE }
     ensures exact { result ≡ weight * value }
-    ensures small { result ≤ 10 ^ 15 }
+    ensures small { result ≤ MAX_PART_AMOUNT }
 {
     weight * value
 }
@@ -52,8 +59,9 @@ fn scaled(weight: u64, value: u64) -> u64
 fn part_amount<S: FeatureSource>(source: &S, step: &Step, values: &[i64], part: &BoundPart) -> u64
     requires step { IsStep step.now }
     requires weight { part.now.weight ≤ MAX_WEIGHT }
-    ensures exact { result ≡ (if part.now.at_end then 0 else amount (measured_at values.now) (at_step (S.features source.now) step.now) part.now) }
-    ensures small { result ≤ 10 ^ 15 }
+    ensures exact { result ≡ (if part.now.at_end then 0
+        else amount (measured_at values.now) (at_step (S.features source.now) step.now) part.now) }
+    ensures small { result ≤ MAX_PART_AMOUNT }
 {
     if part.at_end {
         return 0;
@@ -65,8 +73,9 @@ fn part_amount<S: FeatureSource>(source: &S, step: &Step, values: &[i64], part: 
 fn final_amount<S: FeatureSource>(source: &S, step: &Step, values: &[i64], part: &BoundPart) -> u64
     requires step { IsStep step.now }
     requires weight { part.now.weight ≤ MAX_WEIGHT }
-    ensures exact { result ≡ (if part.now.at_end then amount (measured_at values.now) (at_step (S.features source.now) step.now) part.now else 0) }
-    ensures small { result ≤ 10 ^ 15 }
+    ensures exact { result ≡ (if part.now.at_end then amount (measured_at values.now)
+        (at_step (S.features source.now) step.now) part.now else 0) }
+    ensures small { result ≤ MAX_PART_AMOUNT }
 {
     if !part.at_end {
         return 0;
@@ -84,8 +93,9 @@ pub fn rule_value<S: FeatureSource>(
     requires step { IsStep step.now }
     requires few { length parts.now ≤ MAX_PARTS }
     requires weights { All (λ part. part.weight ≤ MAX_WEIGHT) parts.now }
-    ensures exact { result ≡ step_amount (measured_at values.now) (at_step (S.features source.now) step.now) parts.now }
-    ensures small { result ≤ 8 * 10 ^ 15 }
+    ensures exact { result ≡ step_amount (measured_at values.now)
+        (at_step (S.features source.now) step.now) parts.now }
+    ensures small { result ≤ MAX_AMOUNT }
 {
     let mut sum = 0;
     for part in parts {
@@ -104,8 +114,9 @@ pub fn end_value<S: FeatureSource>(
     requires step { IsStep step.now }
     requires few { length parts.now ≤ MAX_PARTS }
     requires weights { All (λ part. part.weight ≤ MAX_WEIGHT) parts.now }
-    ensures exact { result ≡ end_amount (measured_at values.now) (at_step (S.features source.now) step.now) parts.now }
-    ensures small { result ≤ 8 * 10 ^ 15 }
+    ensures exact { result ≡ end_amount (measured_at values.now)
+        (at_step (S.features source.now) step.now) parts.now }
+    ensures small { result ≤ MAX_AMOUNT }
 {
     let mut sum = 0;
     for part in parts {

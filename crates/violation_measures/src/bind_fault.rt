@@ -1,6 +1,7 @@
 use preorder::NoMemory;
 
-/// Why a book can't be bound to a source of features. The number is that of the rule, counted from 0.
+/// Why a book can't be bound to a source of features. The number is that of the rule, counted from
+/// 0.
 #[derive(Clone, Copy, Debug, Drop, PartialEq, Eq)]
 pub enum BindFault {
     /// The rule has no part.
@@ -9,6 +10,7 @@ pub enum BindFault {
     UnknownFeature(usize),
     /// The interval of a subexpression of a part passes 10^18 in size.
     RangeTooLarge(usize),
+    /// Memory could not be had.
     NoMemory,
 }
 

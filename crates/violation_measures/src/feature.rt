@@ -1,17 +1,10 @@
 ghost use Rattle.std.specs.Prelude.{◌≡◌, ◌<◌, ◌≤◌, ◌^◌, unsigned_abs};
-ghost use Rattle.violation_measures.specs.Scenes.{plain, number, numbered, bounds_in, up_to, either_way};
+ghost use Rattle.violation_measures.specs.Scenes.{plain, number, numbered, bounds_in, up_to};
+ghost use Rattle.violation_measures.specs.Scenes.{either_way};
 
 use crate::step::{MAX_SPEED, MAX_TICK, MAX_TURN};
-use scenario_model::Span;
-
-/// The most obstacles that a scenario has.
-pub const MAX_OBSTACLES: u32 = 500;
-
-/// The most lanelets that a scenario has.
-pub const MAX_LANELETS: u32 = 4_000;
-
-/// The farthest that is told apart, in 0.1 mm.
-pub const MAX_DISTANCE: i64 = 10_000_000;
+use moving_obstacles::MAX_DISTANCE;
+use scenario_model::{MAX_LANELETS, MAX_OBSTACLES, Span};
 
 /// The number of the feature of the first lanelet.
 pub const FIRST_LANELET: u32 = 10;
@@ -25,17 +18,30 @@ pub const PAST_FEATURES: u32 = 10_000;
 /// A feature of a scene. Lanelets and maneuvers are given by their places.
 #[derive(Clone, Copy, Debug, PartialEq, Eq)]
 pub enum Feature {
+    /// How many obstacles have a shape that meets the ego polygon.
     Overlaps,
+    /// How many corners of the ego polygon no lanelet holds.
     OffRoad,
+    /// How many lanelets hold the ego's center.
     Lanes,
+    /// 1 where some lanelet holds the center, and each that does leads more back than ahead there,
+    /// else 0.
     WrongWay,
+    /// In mm/s.
     Speed,
+    /// In mm/s each second.
     Accel,
+    /// In microradians each second.
     Turn,
+    /// In ticks.
     Tick,
+    /// The least box gap to an obstacle, in 0.1 mm, `MAX_DISTANCE` at most.
     Gap,
+    /// How far ahead the next obstacle is, in 0.1 mm, `MAX_DISTANCE` at most.
     Headway,
+    /// 1 where the lanelet at this place holds the center, else 0.
     InLanelet(u32),
+    /// 1 where the step belongs to the maneuver at this place, else 0.
     Maneuver(u32),
 }
 
@@ -133,9 +139,9 @@ impl Feature {
         ensures { result ≡ bounds_in self }
     {
         match self {
-            Feature::Overlaps => up_to(i64::from(MAX_OBSTACLES)),
+            Feature::Overlaps => up_to(MAX_OBSTACLES as i64),
             Feature::OffRoad => up_to(4),
-            Feature::Lanes => up_to(i64::from(MAX_LANELETS)),
+            Feature::Lanes => up_to(MAX_LANELETS as i64),
             Feature::WrongWay | Feature::InLanelet(_) | Feature::Maneuver(_) => up_to(1),
             Feature::Speed | Feature::Accel => either_way(MAX_SPEED),
             Feature::Turn => either_way(MAX_TURN),

@@ -25,9 +25,11 @@ pub fn are_known<S: FeatureSource>(source: &S, expr: &Expr) -> bool
     }
 }
 
-/// Where each feature's value lies in its bounds, the value of an expression that a book may hold lies in its interval.
+/// Where each feature's value lies in its bounds, the value of an expression that a book may hold
+/// lies in its interval.
 pub fn value_lies_in_interval()
     ensures { (feature : Valuation) (bounds : Bounds)
-        → ((name : List ℕ) (argument : Option About) → IsIn (bounds name argument) (feature name argument))
+        → ((name : List ℕ) (argument : Option About) → IsIn (bounds name argument)
+        (feature name argument))
         → (e : Tree) → IsTrue (is_well_formed e) → IsIn (interval bounds e) (value feature e) }
 {}

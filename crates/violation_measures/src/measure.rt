@@ -18,7 +18,8 @@ pub fn measured_at(values: &[i64], place: usize) -> i64
     }
 }
 
-/// The values at the step of the features of the numbers used, in their order. Each is asked once. No memory is taken.
+/// The values at the step of the features of the numbers used, in their order. Each is asked once.
+/// No memory is taken.
 pub fn measure<S: FeatureSource>(source: &S, step: &Step, used: &[u32]) -> [i64; MAX_MEASURED]
     requires step { IsStep step.now }
     requires known { All (IsKnown (S.features source.now)) used.now }

@@ -1,8 +1,11 @@
-ghost use Rattle.std.specs.Prelude.{◌≡◌, ◌≤◌, ◌^◌, pos, ◌<ℤ◌, ◌+ℤ◌, ◌-ℤ◌, ◌*ℤ◌, neg_ℤ, int_div, unsigned_abs, IfSome};
+ghost use Rattle.std.specs.Prelude.{◌≡◌, ◌≤◌, ◌^◌, pos, ◌<ℤ◌, ◌+ℤ◌, ◌-ℤ◌, ◌*ℤ◌, neg_ℤ, int_div};
+ghost use Rattle.std.specs.Prelude.{unsigned_abs, IfSome};
 ghost use Rattle.std.specs.Int.{int_min, int_max};
 ghost use Rattle.violation_measures.specs.Checked.{IsSmall};
 ghost use Rattle.violation_measures.specs.Intervals.{from_to, absolute, product};
-ghost use Rattle.violation_measures.specs.Ranges.{IsKept, kept as kept_of, on_one, on_two, negated, summed, differing, lesser, greater, hull, choice, quotient as quotient_of, ranged};
+ghost use Rattle.violation_measures.specs.Ranges.{IsKept, kept as kept_of, on_one, on_two, negated};
+ghost use Rattle.violation_measures.specs.Ranges.{summed, differing, lesser, greater, hull, choice};
+ghost use Rattle.violation_measures.specs.Ranges.{quotient as quotient_of, ranged};
 ghost use Rattle.violation_measures.specs.Sources.{bounds_of};
 
 use crate::source::FeatureSource;

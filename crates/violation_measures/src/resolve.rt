@@ -1,7 +1,9 @@
 ghost use Rattle.std.specs.Prelude.{◌≡◌, ◌==◌, IfOk, IfSome};
 ghost use Rattle.std.specs.List.{position};
 ghost use Rattle.violation_measures.specs.Checked.{IsSmall, of_one, of_two};
-ghost use Rattle.violation_measures.specs.Formulas.{on_number, on_numbers, constant, one, two, choice, quotient, place_among, feature_at, resolved};
+ghost use Rattle.violation_measures.specs.Formulas.{on_number, on_numbers, constant, one, two};
+ghost use Rattle.violation_measures.specs.Formulas.{choice, quotient, place_among, feature_at};
+ghost use Rattle.violation_measures.specs.Formulas.{resolved};
 
 use crate::formula::{Binary, Formula, Unary};
 use crate::source::FeatureSource;
@@ -96,7 +98,8 @@ pub fn resolve<S: FeatureSource>(
     used: &[u32],
     expr: &Expr,
 ) -> Result<Formula, NoMemory>
-    ensures { IfOk result (λ formula. formula ≡ resolved (S.features source.now).find used.now expr.now) }
+    ensures { IfOk result (λ formula. formula ≡ resolved
+        (S.features source.now).find used.now expr.now) }
 {
     match expr {
         Expr::Const(value) => Ok(Formula::Const(*value)),

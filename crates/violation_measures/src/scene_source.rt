@@ -1,9 +1,8 @@
 ghost use Rattle.std.specs.Prelude.{◌≡◌, ◌≤◌, length};
 ghost use Rattle.fixed_geometry.specs.Shapes.{IsExtent};
-ghost use Rattle.violation_measures.specs.declared.feature.TheConstants.{MAX_LANELETS, MAX_OBSTACLES};
+ghost use Rattle.scenario_model.specs.declared.limits.TheConstants.{MAX_LANELETS, MAX_OBSTACLES};
 ghost use Rattle.violation_measures.specs.declared.scene_source.TheConstants.{MAX_MANEUVERS};
 
-use crate::feature::{MAX_LANELETS, MAX_OBSTACLES};
 use lanelet_network::Network;
 use moving_obstacles::Traffic;
 use preorder::Name;
@@ -35,12 +34,17 @@ impl<'a> SceneSource<'a> {
 
     /// The source of exactly these features. All but the last two are without argument.
     ///
-    /// `overlaps`: how many obstacles have a shape that meets the ego polygon, which is the rectangle of the ego's size at the step's position and heading.
-    /// `off_road`: how many of its corners no lanelet holds. `lanes`: how many lanelets hold its center.
-    /// `wrong_way`: 1 where some lanelet holds the center, and each that does leads more back than ahead there, else 0.
+    /// `overlaps`: how many obstacles have a shape that meets the ego polygon, which is the
+    /// rectangle of the ego's size at the step's position and heading.
+    /// `off_road`: how many of its corners no lanelet holds. `lanes`: how many lanelets hold its
+    /// center.
+    /// `wrong_way`: 1 where some lanelet holds the center, and each that does leads more back than
+    /// ahead there, else 0.
     /// `speed`, `accel`, `turn`, `tick`: the step's.
-    /// `gap`: the least box gap to an obstacle, 10^7 at most and where there is none. `headway`: how far ahead the next obstacle is, in the same way.
-    /// `in_lanelet(ID)`, for a known lanelet: 1 where it holds the center, else 0. `maneuver(NAME)`, for one of the names: 1 where the step belongs to it, else 0.
+    /// `gap`: the least box gap to an obstacle, 10^7 at most and where there is none. `headway`:
+    /// how far ahead the next obstacle is, in the same way.
+    /// `in_lanelet(ID)`, for a known lanelet: 1 where it holds the center, else 0.
+    /// `maneuver(NAME)`, for one of the names: 1 where the step belongs to it, else 0.
     ///
     /// The ego's length and width are 1 to 10^7, and there are at most `MAX_MANEUVERS` names.
     pub fn new(
@@ -53,7 +57,8 @@ impl<'a> SceneSource<'a> {
         requires long { IsExtent ego_length }
         requires wide { IsExtent ego_width }
         requires few { length maneuvers.now ≤ MAX_MANEUVERS }
-        ensures scene { ForObstacles traffic.now (λ obstacles. scene_of result ≡ scene_among network.now obstacles ego_length ego_width maneuvers.now) }
+        ensures scene { ForObstacles traffic.now (λ obstacles. scene_of result
+            ≡ scene_among network.now obstacles ego_length ego_width maneuvers.now) }
         ensures table { HasTable (scene_of result) (features_of (scene_of result)) }
     {
         prove_few(network, traffic);

@@ -11,7 +11,8 @@ use scenario_model::Span;
 /// How far the bounds of a feature may be from 0.
 pub const MAX_BOUND: i64 = 1_000_000_000_000;
 
-/// Where features come from. Each has a number, bounds, and a value at each step, which lies in the bounds. No call takes memory.
+/// Where features come from. Each has a number, bounds, and a value at each step, which lies in the
+/// bounds. No call takes memory.
 pub trait FeatureSource {
     /// What the calls answer.
     ghost features: { Self → Features };
@@ -20,7 +21,8 @@ pub trait FeatureSource {
     fn find(&self, name: &Name, argument: Option<&Argument>) -> Option<u32>
         ensures { result ≡ (features self.now).find name.now (option_copied argument.entry) };
 
-    /// The least and the greatest value of the feature of a number that `find` gives, at most `MAX_BOUND` in size.
+    /// The least and the greatest value of the feature of a number that `find` gives, at most
+    /// `MAX_BOUND` in size.
     fn bounds(&self, feature: u32) -> Span
         requires { IsKnown (features self.now) feature }
         ensures { result ≡ (features self.now).bounds feature };

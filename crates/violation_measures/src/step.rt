@@ -13,7 +13,8 @@ pub const MAX_SPEED: i64 = 1_000_000;
 /// The fastest turn in size, in microradians each second.
 pub const MAX_TURN: i64 = 10_000_000;
 
-/// Where the vehicle is at a tick, and how it drives. Lengths are in 0.1 mm, angles in microradians, speeds in mm/s.
+/// Where the vehicle is at a tick, and how it drives. Lengths are in 0.1 mm, angles in
+/// microradians, speeds in mm/s.
 #[derive(Clone, Copy, Debug, PartialEq, Eq)]
 pub struct Step {
     /// At most `MAX_TICK`.

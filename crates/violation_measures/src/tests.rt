@@ -1,5 +1,7 @@
 ghost use Rattle.std.specs.Prelude.{◌≡◌, ◌≤◌, ◌^◌, All, length, sum, IfOk, List as Items, ℕ, map};
-ghost use Rattle.scenario_model.specs.Scenario.{IsRead, IsShape, IsBound, IsPose, IsStateCount, IsObstacle, IsLanelet, IsProblem, IsScenario, HaveDifferentIds, corner_count};
+ghost use Rattle.scenario_model.specs.Scenario.{IsRead, IsShape, IsBound, IsPose, IsStateCount};
+ghost use Rattle.scenario_model.specs.Scenario.{IsObstacle, IsLanelet, IsProblem, IsScenario};
+ghost use Rattle.scenario_model.specs.Scenario.{HaveDifferentIds, corner_count};
 ghost use Rattle.scenario_model.specs.declared.lanelet.Lanelet.{Lanelet as Piece};
 ghost use Rattle.scenario_model.specs.declared.obstacle.Obstacle.{Obstacle as Thing};
 ghost use Rattle.violation_measures.specs.Steps.{IsStep};
@@ -104,7 +106,8 @@ fn bound(alloc: Global, y: i32) -> Result<List<Point>, NoMemory>
 // A lane of 200 m along x, 4 m wide.
 fn lanelets(alloc: Global) -> Result<List<Lanelet>, NoMemory>
     ensures few { IfOk result (λ lanelets. length lanelets ≡ 1) }
-    ensures each { IfOk result (λ lanelets. All (IsLanelet (map (λ (l : Piece). l.id) lanelets)) lanelets) }
+    ensures each { IfOk result (λ lanelets. All (IsLanelet
+        (map (λ (l : Piece). l.id) lanelets)) lanelets) }
     ensures different { IfOk result (λ lanelets. HaveDifferentIds (λ (l : Piece). l.id) lanelets) }
 {
     let mut lanelets = List::new(alloc);
@@ -180,7 +183,8 @@ fn moving(alloc: Global) -> Result<Obstacle, NoMemory>
 fn obstacles(alloc: Global) -> Result<List<Obstacle>, NoMemory>
     ensures few { IfOk result (λ obstacles. length obstacles ≡ 2) }
     ensures each { IfOk result (All IsObstacle) }
-    ensures different { IfOk result (λ obstacles. HaveDifferentIds (λ (o : Thing). o.id) obstacles) }
+    ensures different { IfOk result (λ obstacles. HaveDifferentIds
+        (λ (o : Thing). o.id) obstacles) }
 {
     let mut obstacles = List::new(alloc);
     obstacles.push(standing(alloc)?)?;

@@ -1,13 +1,15 @@
 ghost use Rattle.std.specs.Prelude.{◌≡◌, ◌==◌, OnOk, IfOk, if◌then◌else◌, []};
 ghost use Rattle.std.specs.List.{fold, list_any};
-ghost use Rattle.violation_measures.specs.Measured.{noted, numbers, is_of_kind, part_numbers, used_by};
+ghost use Rattle.violation_measures.specs.Measured.{noted, numbers, is_of_kind, part_numbers};
+ghost use Rattle.violation_measures.specs.Measured.{used_by};
 
 use crate::source::FeatureSource;
 use preorder::{List, NoMemory};
 use rule_language::{Expr, Part, Rule};
 use std::alloc::Global;
 
-/// The most features that are measured once a step, and once at the end. A book's further features are found and measured where they stand.
+/// The most features that are measured once a step, and once at the end. A book's further features
+/// are found and measured where they stand.
 pub const MAX_MEASURED: usize = 64;
 
 fn is_noted(used: &[u32], number: u32) -> bool
@@ -32,7 +34,8 @@ fn note_features<S: FeatureSource>(
     expr: &Expr,
     used: &mut List<u32>,
 ) -> Result<(), NoMemory>
-    ensures { OnOk result (used.new ≡ fold noted used.old (numbers (S.features source.now).find expr.now)) }
+    ensures { OnOk result (used.new ≡ fold noted used.old
+        (numbers (S.features source.now).find expr.now)) }
 {
     match expr {
         Expr::Const(_) => Ok(()),
@@ -65,7 +68,9 @@ fn note_part<S: FeatureSource>(
     part: &Part,
     used: &mut List<u32>,
 ) -> Result<(), NoMemory>
-    ensures { OnOk result (used.new ≡ fold noted used.old (if is_of_kind at_end part.now then numbers (S.features source.now).find part.now.expr else [])) }
+    ensures { OnOk result (used.new ≡ fold noted used.old
+        (if is_of_kind at_end part.now then numbers (S.features source.now).find part.now.expr
+        else [])) }
 {
     if !is_of_kind(at_end, part) {
         return Ok(());
@@ -79,7 +84,8 @@ fn note_parts<S: FeatureSource>(
     parts: &[Part],
     used: &mut List<u32>,
 ) -> Result<(), NoMemory>
-    ensures { OnOk result (used.new ≡ fold noted used.old (part_numbers (S.features source.now).find at_end parts.now)) }
+    ensures { OnOk result (used.new ≡ fold noted used.old
+        (part_numbers (S.features source.now).find at_end parts.now)) }
 {
     for part in parts {
         note_part(source, at_end, part, used)?;
@@ -87,7 +93,8 @@ fn note_parts<S: FeatureSource>(
     Ok(())
 }
 
-/// The numbers of the first `MAX_MEASURED` features that the parts of the end name, or the other parts, each once.
+/// The numbers of the first `MAX_MEASURED` features that the parts of the end name, or the other
+/// parts, each once.
 #[tactic(auto, unfolding(crate::specs::Measured::used_by))]
 pub fn used_by<S: FeatureSource>(
     alloc: Global,

@@ -1,4 +1,5 @@
-ghost use Rattle.std.specs.Prelude.{◌≡◌, ℤ, pos, ◌+ℤ◌, ◌-ℤ◌, ◌*ℤ◌, neg_ℤ, unsigned_abs, IfSome, IsTrue, List, ℕ, Option};
+ghost use Rattle.std.specs.Prelude.{◌≡◌, ℤ, pos, ◌+ℤ◌, ◌-ℤ◌, ◌*ℤ◌, neg_ℤ, unsigned_abs, IfSome};
+ghost use Rattle.std.specs.Prelude.{IsTrue, List, ℕ, Option};
 ghost use Rattle.expressions.specs.Written.{is_well_formed};
 ghost use Rattle.expressions.specs.declared.tree.Argument.{Argument};
 ghost use Rattle.expressions.specs.declared.tree.Expr.{Expr};
@@ -7,7 +8,8 @@ ghost use Rattle.violation_measures.specs.Intervals.{Bounds, IsIn, all_keep};
 ghost use Rattle.std.specs.Int.{int_min, int_max};
 ghost use Rattle.violation_measures.specs.Sources.{at_step};
 ghost use Rattle.violation_measures.specs.Steps.{IsStep};
-ghost use Rattle.violation_measures.specs.Checked.{cut, of_one, of_two, chosen, divided, checked_value, IsSmall};
+ghost use Rattle.violation_measures.specs.Checked.{cut, of_one, of_two, chosen, divided};
+ghost use Rattle.violation_measures.specs.Checked.{checked_value, IsSmall};
 ghost use Rattle.violation_measures.specs.Formulas.{on_number, on_numbers, formula_value};
 ghost use Rattle.violation_measures.specs.Measured.{measured_at};
 
@@ -18,10 +20,10 @@ use crate::step::Step;
 use preorder::Name;
 use rule_language::Argument;
 
-/// The most in size that a value on the way may be.
+// The most in size that a value on the way may be.
 pub(crate) const MAX_VALUE: u128 = 1_000_000_000_000_000_000;
 
-/// The number where it is small.
+// The number where it is small.
 pub(crate) fn cut(value: i128) -> Option<i128>
     ensures exact { result ≡ cut value }
     ensures small { IfSome result IsSmall }
@@ -33,7 +35,7 @@ pub(crate) fn cut(value: i128) -> Option<i128>
     }
 }
 
-/// The value of a feature, where it is small; that of an unknown feature is 0.
+// The value of a feature, where it is small; that of an unknown feature is 0.
 fn feature_value<S: FeatureSource>(
     source: &S,
     step: &Step,
@@ -158,7 +160,8 @@ pub(crate) fn combined(operation: Binary, a: Option<i128>, b: Option<i128>) -> O
     }
 }
 
-/// The value at a step, by the values that are measured there, where no value on the way passes 10^18 in size.
+/// The value at a step, by the values that are measured there, where no value on the way passes
+/// 10^18 in size.
 pub fn value_of<S: FeatureSource>(
     source: &S,
     step: &Step,
@@ -166,7 +169,8 @@ pub fn value_of<S: FeatureSource>(
     formula: &Formula,
 ) -> Option<i128>
     requires { IsStep step.now }
-    ensures exact { result ≡ formula_value (measured_at values.now) (at_step (S.features source.now) step.now) formula.now }
+    ensures exact { result ≡ formula_value (measured_at values.now)
+        (at_step (S.features source.now) step.now) formula.now }
     ensures small { IfSome result IsSmall }
 {
     match formula {
@@ -188,9 +192,12 @@ pub fn value_of<S: FeatureSource>(
     }
 }
 
-/// Where the interval of no subexpression passes 10^18, the value that is computed is the value in whole numbers.
+/// Where the interval of no subexpression passes 10^18, the value that is computed is the value in
+/// whole numbers.
 pub fn values_are_exact()
     ensures { (feature : Valuation) (bounds : Bounds)
-        → ((name : List ℕ) (argument : Option Argument) → IsIn (bounds name argument) (feature name argument))
-        → (e : Expr) → IsTrue (is_well_formed e) → IsTrue (all_keep bounds e) → checked_value feature e ≡ Some (value feature e) }
+        → ((name : List ℕ) (argument : Option Argument)
+        → IsIn (bounds name argument) (feature name argument))
+        → (e : Expr) → IsTrue (is_well_formed e) → IsTrue (all_keep bounds e)
+        → checked_value feature e ≡ Some (value feature e) }
 {}

@@ -23,102 +23,97 @@ pub const PROBLEM: &str =
 
 pub const END: &str = "</commonRoad>";
 
-/// What stands before and after a piece of a root.
+/// What a piece of a root stands in or behind.
 #[derive(Clone, Copy)]
-pub struct Around {
-    pub open: &'static str,
-    pub close: &'static str,
+pub enum Around {
+    InRoot,
+    InLeft,
+    InRight,
+    AfterBounds,
+    InShape,
+    Standing,
+    Moving,
+    InTrajectory,
+    InStart,
+    InGoal,
+    InRegions,
+    StandingHere,
+    MovingHere,
+    StartingHere,
+    InStateHere,
+    InTimedGoal,
+    AfterStart,
+    AfterShape,
 }
 
-pub const IN_ROOT: Around = Around {
-    open: "",
-    close: "",
-};
+impl Around {
+    /// What stands before the piece.
+    pub fn open(self) -> &'static str {
+        match self {
+            Around::InRoot => "",
+            Around::InLeft => "<lanelet id='1'><leftBound>",
+            Around::InRight =>
+                "<lanelet id='1'><leftBound><point><x>0</x><y>0</y></point><point><x>0</x><y>0</y></point></leftBound><rightBound>",
+            Around::AfterBounds =>
+                "<lanelet id='1'><leftBound><point><x>0</x><y>0</y></point><point><x>0</x><y>0</y></point></leftBound><rightBound><point><x>0</x><y>0</y></point><point><x>0</x><y>0</y></point></rightBound>",
+            Around::InShape => "<staticObstacle id='5'><shape>",
+            Around::Standing =>
+                "<staticObstacle id='5'><shape><circle><radius>1</radius></circle></shape><initialState>",
+            Around::Moving =>
+                "<dynamicObstacle id='6'><shape><circle><radius>1</radius></circle></shape><initialState>",
+            Around::InTrajectory =>
+                "<dynamicObstacle id='6'><shape><circle><radius>1</radius></circle></shape><initialState><position><point><x>0</x><y>0</y></point></position><time><exact>0</exact></time></initialState><trajectory>",
+            Around::InStart => "<planningProblem id='9'><initialState>",
+            Around::InGoal =>
+                "<planningProblem id='9'><initialState><position><point><x>0</x><y>0</y></point></position></initialState><goalState>",
+            Around::InRegions =>
+                "<planningProblem id='9'><initialState><position><point><x>0</x><y>0</y></point></position></initialState><goalState><time><exact>1</exact></time><position>",
+            Around::StandingHere =>
+                "<staticObstacle id='5'><shape><circle><radius>1</radius></circle></shape><initialState><position><point><x>0</x><y>0</y></point></position>",
+            Around::MovingHere =>
+                "<dynamicObstacle id='6'><shape><circle><radius>1</radius></circle></shape><initialState><position><point><x>0</x><y>0</y></point></position>",
+            Around::StartingHere =>
+                "<planningProblem id='9'><initialState><position><point><x>0</x><y>0</y></point></position>",
+            Around::InStateHere =>
+                "<dynamicObstacle id='6'><shape><circle><radius>1</radius></circle></shape><initialState><position><point><x>0</x><y>0</y></point></position><time><exact>0</exact></time></initialState><trajectory><state><position><point><x>0</x><y>0</y></point></position>",
+            Around::InTimedGoal =>
+                "<planningProblem id='9'><initialState><position><point><x>0</x><y>0</y></point></position></initialState><goalState><time><exact>1</exact></time>",
+            Around::AfterStart =>
+                "<planningProblem id='9'><initialState><position><point><x>0</x><y>0</y></point></position></initialState>",
+            Around::AfterShape =>
+                "<dynamicObstacle id='6'><shape><circle><radius>1</radius></circle></shape>",
+        }
+    }
 
-pub const IN_LEFT: Around = Around {
-    open: "<lanelet id='1'><leftBound>",
-    close: "<point><x>0</x><y>0</y></point><point><x>0</x><y>0</y></point></leftBound><rightBound><point><x>0</x><y>0</y></point><point><x>0</x><y>0</y></point></rightBound></lanelet>",
-};
-
-pub const IN_RIGHT: Around = Around {
-    open: "<lanelet id='1'><leftBound><point><x>0</x><y>0</y></point><point><x>0</x><y>0</y></point></leftBound><rightBound>",
-    close: "<point><x>0</x><y>0</y></point><point><x>0</x><y>0</y></point></rightBound></lanelet>",
-};
-
-pub const AFTER_BOUNDS: Around = Around {
-    open: "<lanelet id='1'><leftBound><point><x>0</x><y>0</y></point><point><x>0</x><y>0</y></point></leftBound><rightBound><point><x>0</x><y>0</y></point><point><x>0</x><y>0</y></point></rightBound>",
-    close: "</lanelet>",
-};
-
-pub const IN_SHAPE: Around = Around {
-    open: "<staticObstacle id='5'><shape>",
-    close: "</shape><initialState><position><point><x>0</x><y>0</y></point></position></initialState></staticObstacle>",
-};
-
-pub const STANDING: Around = Around {
-    open: "<staticObstacle id='5'><shape><circle><radius>1</radius></circle></shape><initialState>",
-    close: "</initialState></staticObstacle>",
-};
-
-pub const MOVING: Around = Around {
-    open: "<dynamicObstacle id='6'><shape><circle><radius>1</radius></circle></shape><initialState>",
-    close: "</initialState></dynamicObstacle>",
-};
-
-pub const IN_TRAJECTORY: Around = Around {
-    open: "<dynamicObstacle id='6'><shape><circle><radius>1</radius></circle></shape><initialState><position><point><x>0</x><y>0</y></point></position><time><exact>0</exact></time></initialState><trajectory>",
-    close: "</trajectory></dynamicObstacle>",
-};
-
-pub const IN_START: Around = Around {
-    open: "<planningProblem id='9'><initialState>",
-    close: "</initialState><goalState><time><exact>1</exact></time></goalState></planningProblem>",
-};
-
-pub const IN_GOAL: Around = Around {
-    open: "<planningProblem id='9'><initialState><position><point><x>0</x><y>0</y></point></position></initialState><goalState>",
-    close: "</goalState></planningProblem>",
-};
-
-pub const IN_REGIONS: Around = Around {
-    open: "<planningProblem id='9'><initialState><position><point><x>0</x><y>0</y></point></position></initialState><goalState><time><exact>1</exact></time><position>",
-    close: "</position></goalState></planningProblem>",
-};
-
-pub const STANDING_HERE: Around = Around {
-    open: "<staticObstacle id='5'><shape><circle><radius>1</radius></circle></shape><initialState><position><point><x>0</x><y>0</y></point></position>",
-    close: "</initialState></staticObstacle>",
-};
-
-pub const MOVING_HERE: Around = Around {
-    open: "<dynamicObstacle id='6'><shape><circle><radius>1</radius></circle></shape><initialState><position><point><x>0</x><y>0</y></point></position>",
-    close: "</initialState></dynamicObstacle>",
-};
-
-pub const STARTING_HERE: Around = Around {
-    open: "<planningProblem id='9'><initialState><position><point><x>0</x><y>0</y></point></position>",
-    close: "</initialState><goalState><time><exact>1</exact></time></goalState></planningProblem>",
-};
-
-pub const IN_STATE_HERE: Around = Around {
-    open: "<dynamicObstacle id='6'><shape><circle><radius>1</radius></circle></shape><initialState><position><point><x>0</x><y>0</y></point></position><time><exact>0</exact></time></initialState><trajectory><state><position><point><x>0</x><y>0</y></point></position>",
-    close: "</state></trajectory></dynamicObstacle>",
-};
-
-pub const IN_TIMED_GOAL: Around = Around {
-    open: "<planningProblem id='9'><initialState><position><point><x>0</x><y>0</y></point></position></initialState><goalState><time><exact>1</exact></time>",
-    close: "</goalState></planningProblem>",
-};
-
-pub const AFTER_START: Around = Around {
-    open: "<planningProblem id='9'><initialState><position><point><x>0</x><y>0</y></point></position></initialState>",
-    close: "</planningProblem>",
-};
-
-pub const AFTER_SHAPE: Around = Around {
-    open: "<dynamicObstacle id='6'><shape><circle><radius>1</radius></circle></shape>",
-    close: "</dynamicObstacle>",
-};
+    /// What stands after it.
+    pub fn close(self) -> &'static str {
+        match self {
+            Around::InRoot => "",
+            Around::InLeft =>
+                "<point><x>0</x><y>0</y></point><point><x>0</x><y>0</y></point></leftBound><rightBound><point><x>0</x><y>0</y></point><point><x>0</x><y>0</y></point></rightBound></lanelet>",
+            Around::InRight =>
+                "<point><x>0</x><y>0</y></point><point><x>0</x><y>0</y></point></rightBound></lanelet>",
+            Around::AfterBounds => "</lanelet>",
+            Around::InShape =>
+                "</shape><initialState><position><point><x>0</x><y>0</y></point></position></initialState></staticObstacle>",
+            Around::Standing => "</initialState></staticObstacle>",
+            Around::Moving => "</initialState></dynamicObstacle>",
+            Around::InTrajectory => "</trajectory></dynamicObstacle>",
+            Around::InStart =>
+                "</initialState><goalState><time><exact>1</exact></time></goalState></planningProblem>",
+            Around::InGoal => "</goalState></planningProblem>",
+            Around::InRegions => "</position></goalState></planningProblem>",
+            Around::StandingHere => "</initialState></staticObstacle>",
+            Around::MovingHere => "</initialState></dynamicObstacle>",
+            Around::StartingHere =>
+                "</initialState><goalState><time><exact>1</exact></time></goalState></planningProblem>",
+            Around::InStateHere => "</state></trajectory></dynamicObstacle>",
+            Around::InTimedGoal => "</goalState></planningProblem>",
+            Around::AfterStart => "</planningProblem>",
+            Around::AfterShape => "</dynamicObstacle>",
+        }
+    }
+}
 
 /// The text of a root that holds these pieces.
 pub fn document(alloc: Global, pieces: &[&str]) -> Result<String, Fail> {
@@ -144,11 +139,11 @@ pub fn told(
     piece: &str,
 ) -> Result<(Option<ScenarioFault>, usize), Fail> {
     let mut text = String::from_str(alloc, HEAD)?;
-    text.push_str(around.open)?;
+    text.push_str(around.open())?;
     text.push_str(before)?;
     let at = text.len();
     text.push_str(piece)?;
-    text.push_str(around.close)?;
+    text.push_str(around.close())?;
     text.push_str(PROBLEM)?;
     text.push_str(END)?;
     Ok((read_scenario(alloc, text.as_bytes()).err(), at))
@@ -159,7 +154,20 @@ pub type Lacking = (Around, &'static str, &'static str, Wanted);
 
 pub fn lack(rt: &impl Abort, alloc: Global, rows: &[Lacking]) -> Result<(), Fail> {
     for (around, before, piece, wanted) in rows {
-        let (fault, at) = told(alloc, *around, before, piece)?;
+        lack_in(rt, alloc, *around, &[(*before, *piece, *wanted)])?;
+    }
+    Ok(())
+}
+
+/// The same with one and the same piece around.
+pub fn lack_in(
+    rt: &impl Abort,
+    alloc: Global,
+    around: Around,
+    rows: &[(&str, &str, Wanted)],
+) -> Result<(), Fail> {
+    for (before, piece, wanted) in rows {
+        let (fault, at) = told(alloc, around, before, piece)?;
         assert_eq!(rt;
             fault,
             Some(ScenarioFault::Missing(*wanted, at)),
@@ -174,7 +182,20 @@ pub type Numberless = (Around, &'static str, &'static str);
 
 pub fn hold_no_number(rt: &impl Abort, alloc: Global, rows: &[Numberless]) -> Result<(), Fail> {
     for (around, before, piece) in rows {
-        let (fault, at) = told(alloc, *around, before, piece)?;
+        hold_no_number_in(rt, alloc, *around, &[(*before, *piece)])?;
+    }
+    Ok(())
+}
+
+/// The same with one and the same piece around.
+pub fn hold_no_number_in(
+    rt: &impl Abort,
+    alloc: Global,
+    around: Around,
+    rows: &[(&str, &str)],
+) -> Result<(), Fail> {
+    for (before, piece) in rows {
+        let (fault, at) = told(alloc, around, before, piece)?;
         assert_eq!(rt; fault, Some(ScenarioFault::BadNumber(at)), "at {piece}");
     }
     Ok(())

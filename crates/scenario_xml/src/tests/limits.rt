@@ -1,6 +1,7 @@
-use crate::tests::fixtures::{IN_GOAL, IN_REGIONS, IN_ROOT, PROBLEM, TIME, copies, fault_of, told};
+use crate::tests::fixtures::{Around, PROBLEM, TIME, copies, fault_of, told};
 use crate::{Kind, ScenarioFault, Wanted};
 use std::alloc::Global;
+use std::process::Abort;
 use std::test::Fail;
 
 const CORNER: &str = "<point><x>0</x><y>0</y></point>";
@@ -12,61 +13,6 @@ const ROUND: &str = "<shape><circle><radius>1</radius></circle></shape>";
 const START: &str =
     "<initialState><position><point><x>0</x><y>0</y></point></position><time><exact>0</exact></time></initialState>";
 
-#[test]
-fn a_bound_has_2_to_2048_points(rt: HostRuntime) -> Result<(), Fail> {
-    for (count, good) in [
-        (0, false),
-        (1, false),
-        (2, true),
-        (2048, true),
-        (2049, false),
-    ] {
-        let wanted = if good {
-            None
-        } else {
-            Some(ScenarioFault::BadBound(7))
-        };
-        let points = copies(rt.alloc(), CORNER, count)?;
-        let left = format!(in rt.alloc();
-            "<lanelet id='7'><leftBound>{points}</leftBound><rightBound>{PAIR}</rightBound></lanelet>"
-        )?;
-        assert_eq!(rt;
-            fault_of(rt.alloc(), &[left.as_str(), PROBLEM])?,
-            wanted,
-            "at {count}"
-        );
-        let right = format!(in rt.alloc();
-            "<lanelet id='7'><leftBound>{PAIR}</leftBound><rightBound>{points}</rightBound></lanelet>"
-        )?;
-        assert_eq!(rt;
-            fault_of(rt.alloc(), &[right.as_str(), PROBLEM])?,
-            wanted,
-            "at {count}"
-        );
-    }
-    Ok(())
-}
-
-#[test]
-fn the_points_of_a_bound_are_read_before_they_are_counted(rt: HostRuntime) -> Result<(), Fail> {
-    for count in [0, 2048] {
-        let points = copies(rt.alloc(), CORNER, count)?;
-        let before = format!(in rt.alloc(); "<lanelet id='7'><leftBound>{points}")?;
-        let (fault, at) = told(
-            rt.alloc(),
-            IN_ROOT,
-            before.as_str(),
-            "<point><x>0</x></point></leftBound></lanelet>",
-        )?;
-        assert_eq!(rt;
-            fault,
-            Some(ScenarioFault::Missing(Wanted::Y, at)),
-            "at {count}"
-        );
-    }
-    Ok(())
-}
-
 /// So many elements, each of its own id.
 fn numbered(alloc: Global, count: usize, name: &str, content: &str) -> Result<String, Fail> {
     let mut text = String::new(alloc);
@@ -77,13 +23,115 @@ fn numbered(alloc: Global, count: usize, name: &str, content: &str) -> Result<St
     Ok(text)
 }
 
+/// A lanelet whose one bound has so many points.
+fn bounded(alloc: Global, count: usize, is_left: bool) -> Result<String, Fail> {
+    let points = copies(alloc, CORNER, count)?;
+    let (left, right) = if is_left {
+        (points.as_str(), PAIR)
+    } else {
+        (PAIR, points.as_str())
+    };
+    Ok(format!(in alloc;
+        "<lanelet id='7'><leftBound>{left}</leftBound><rightBound>{right}</rightBound></lanelet>"
+    )?)
+}
+
+/// A lanelet is good or its bound is bad.
+fn bound(rt: &impl Abort, alloc: Global, count: usize, good: bool) -> Result<(), Fail> {
+    let wanted = if good {
+        None
+    } else {
+        Some(ScenarioFault::BadBound(7))
+    };
+    for is_left in [true, false] {
+        let lanelet = bounded(alloc, count, is_left)?;
+        assert_eq!(rt;
+            fault_of(alloc, &[lanelet.as_str(), PROBLEM])?,
+            wanted,
+            "at {count}"
+        );
+    }
+    Ok(())
+}
+
 #[test]
-fn a_scenario_has_so_many_of_each_kind(rt: HostRuntime) -> Result<(), Fail> {
-    let lanelet = format!(in rt.alloc();
+fn a_bound_has_2_to_2048_points_which_are_read_first(rt: HostRuntime) -> Result<(), Fail> {
+    let alloc = rt.alloc();
+    for (count, good) in [
+        (0, false),
+        (1, false),
+        (2, true),
+        (2048, true),
+        (2049, false),
+    ] {
+        bound(&rt, alloc, count, good)?;
+    }
+    for count in [0, 2048] {
+        let points = copies(alloc, CORNER, count)?;
+        let before = format!(in alloc; "<lanelet id='7'><leftBound>{points}")?;
+        let piece = "<point><x>0</x></point></leftBound></lanelet>";
+        let (fault, at) = told(alloc, Around::InRoot, before.as_str(), piece)?;
+        assert_eq!(rt;
+            fault,
+            Some(ScenarioFault::Missing(Wanted::Y, at)),
+            "at {count}"
+        );
+    }
+    Ok(())
+}
+
+/// There may be so many elements of a name with this content, and no more.
+fn most(
+    rt: &impl Abort,
+    alloc: Global,
+    count: usize,
+    name: &str,
+    content: &str,
+    last: &str,
+    kind: Kind,
+) -> Result<(), Fail> {
+    let all = numbered(alloc, count, name, content)?;
+    assert_eq!(rt; fault_of(alloc, &[all.as_str(), last])?, None, "at {name}");
+    let more = format!(in alloc; "<{name}/>")?;
+    assert_eq!(rt;
+        fault_of(alloc, &[all.as_str(), more.as_str(), last])?,
+        Some(ScenarioFault::TooMany(kind)),
+        "at {name}"
+    );
+    Ok(())
+}
+
+/// What more there may not be, after so many.
+fn too_many(
+    rt: &impl Abort,
+    alloc: Global,
+    around: Around,
+    all: &str,
+    more: &str,
+    kind: Kind,
+) -> Result<(), Fail> {
+    assert_eq!(rt;
+        told(alloc, around, all, more)?.0,
+        Some(ScenarioFault::TooMany(kind)),
+        "at {more}"
+    );
+    Ok(())
+}
+
+/// 499 static obstacles and a moving one.
+fn both_kinds(alloc: Global, content: &str) -> Result<String, Fail> {
+    let first = numbered(alloc, 499, "staticObstacle", content)?;
+    Ok(format!(in alloc; "{first}<dynamicObstacle id='499'>{content}</dynamicObstacle>")?)
+}
+
+#[test]
+fn there_are_so_many_of_each_kind(rt: HostRuntime) -> Result<(), Fail> {
+    let alloc = rt.alloc();
+    let lanelet = format!(in alloc;
         "<leftBound>{PAIR}</leftBound><rightBound>{PAIR}</rightBound>"
     )?;
-    let obstacle = format!(in rt.alloc(); "{ROUND}{START}")?;
-    let problem = format!(in rt.alloc(); "{START}<goalState>{TIME}</goalState>")?;
+    let obstacle = format!(in alloc; "{ROUND}{START}")?;
+    let problem = format!(in alloc; "{START}<goalState>{TIME}</goalState>")?;
     let rows: [(usize, &str, &str, &str, Kind); 4] = [
         (4000, "lanelet", lanelet.as_str(), PROBLEM, Kind::Lanelet),
         (
@@ -103,67 +151,45 @@ fn a_scenario_has_so_many_of_each_kind(rt: HostRuntime) -> Result<(), Fail> {
         (64, "planningProblem", problem.as_str(), "", Kind::Problem),
     ];
     for (count, name, content, last, kind) in rows {
-        let most = numbered(rt.alloc(), count, name, content)?;
-        let good = format!(in rt.alloc(); "{most}{last}")?;
-        assert_eq!(rt; fault_of(rt.alloc(), &[good.as_str()])?, None, "at {name}");
-        let bad = format!(in rt.alloc(); "{most}<{name}/>{last}")?;
-        assert_eq!(rt;
-            fault_of(rt.alloc(), &[bad.as_str()])?,
-            Some(ScenarioFault::TooMany(kind)),
-            "at {name}"
-        );
+        most(&rt, alloc, count, name, content, last, kind)?;
     }
-    Ok(())
-}
-
-#[test]
-fn obstacles_of_both_kinds_are_counted_together(rt: HostRuntime) -> Result<(), Fail> {
-    let content = format!(in rt.alloc(); "{ROUND}{START}")?;
-    let first = numbered(rt.alloc(), 499, "staticObstacle", content.as_str())?;
-    let most = format!(in rt.alloc();
-        "{first}<dynamicObstacle id='499'>{content}</dynamicObstacle>"
-    )?;
-    assert_eq!(rt; told(rt.alloc(), IN_ROOT, most.as_str(), "")?.0, None);
+    let all = both_kinds(alloc, obstacle.as_str())?;
+    assert_eq!(rt; told(alloc, Around::InRoot, all.as_str(), "")?.0, None);
     for more in ["<staticObstacle/>", "<dynamicObstacle id='0'/>"] {
-        assert_eq!(rt;
-            told(rt.alloc(), IN_ROOT, most.as_str(), more)?.0,
-            Some(ScenarioFault::TooMany(Kind::Obstacle)),
-            "at {more}"
-        );
+        too_many(
+            &rt,
+            alloc,
+            Around::InRoot,
+            all.as_str(),
+            more,
+            Kind::Obstacle,
+        )?;
     }
     Ok(())
 }
 
 #[test]
 fn a_problem_has_64_goals_and_a_goal_64_regions(rt: HostRuntime) -> Result<(), Fail> {
-    let goals = copies(
-        rt.alloc(),
-        "<time><exact>1</exact></time></goalState><goalState>",
-        63,
-    )?;
+    let alloc = rt.alloc();
+    let goal = "<time><exact>1</exact></time></goalState><goalState>";
+    let goals = copies(alloc, goal, 63)?;
     let last = "<time><exact>1</exact></time>";
-    assert_eq!(rt; told(rt.alloc(), IN_GOAL, goals.as_str(), last)?.0, None);
+    assert_eq!(rt; told(alloc, Around::InGoal, goals.as_str(), last)?.0, None);
+    too_many(&rt, alloc, Around::InGoal, goals.as_str(), goal, Kind::Goal)?;
+    let regions = copies(alloc, "<circle><radius>1</radius></circle>", 64)?;
     assert_eq!(rt;
-        told(
-            rt.alloc(),
-            IN_GOAL,
-            goals.as_str(),
-            "<time><exact>1</exact></time></goalState><goalState>"
-        )?
-        .0,
-        Some(ScenarioFault::TooMany(Kind::Goal))
-    );
-    let regions = copies(rt.alloc(), "<circle><radius>1</radius></circle>", 64)?;
-    assert_eq!(rt;
-        told(rt.alloc(), IN_REGIONS, regions.as_str(), "<ellipse/>")?.0,
+        told(alloc, Around::InRegions, regions.as_str(), "<ellipse/>")?.0,
         None
     );
     for more in ["<rectangle/>", "<circle/>", "<polygon/>", "<lanelet/>"] {
-        assert_eq!(rt;
-            told(rt.alloc(), IN_REGIONS, regions.as_str(), more)?.0,
-            Some(ScenarioFault::TooMany(Kind::Region)),
-            "at {more}"
-        );
+        too_many(
+            &rt,
+            alloc,
+            Around::InRegions,
+            regions.as_str(),
+            more,
+            Kind::Region,
+        )?;
     }
     Ok(())
 }

@@ -3,6 +3,7 @@ use crate::tests::fixtures::{END, HEAD, LANELET, SIDES, STATE, TIME};
 use fixed_geometry::Point;
 use scenario_model::{Pose, Region, Scenario, Shape};
 use std::alloc::Global;
+use std::process::Abort;
 use std::test::Fail;
 
 /// A scenario with a lanelet, two obstacles and a problem.
@@ -27,9 +28,8 @@ fn sample(alloc: Global) -> Result<Scenario, Fail> {
     Ok(scenario)
 }
 
-#[test]
-fn a_lanelet_keeps_its_known_references(rt: HostRuntime) -> Result<(), Fail> {
-    let scenario = sample(rt.alloc())?;
+// A lanelet keeps its references to lanelets that there are.
+fn lanelet(rt: &impl Abort, scenario: &Scenario) -> Result<(), Fail> {
     assert_eq!(rt; scenario.step_micros, 100_000);
     let [lanelet] = scenario.lanelets.as_slice() else {
         return Err(Fail::from("one lanelet"));
@@ -56,9 +56,8 @@ fn a_lanelet_keeps_its_known_references(rt: HostRuntime) -> Result<(), Fail> {
     Ok(())
 }
 
-#[test]
-fn obstacles_have_shapes_and_states(rt: HostRuntime) -> Result<(), Fail> {
-    let scenario = sample(rt.alloc())?;
+// Obstacles have shapes and states.
+fn obstacles(rt: &impl Abort, scenario: &Scenario) -> Result<(), Fail> {
     let [standing, moving] = scenario.obstacles.as_slice() else {
         return Err(Fail::from("two obstacles"));
     };
@@ -104,9 +103,8 @@ fn obstacles_have_shapes_and_states(rt: HostRuntime) -> Result<(), Fail> {
     Ok(())
 }
 
-#[test]
-fn a_problem_has_a_start_and_goals(rt: HostRuntime) -> Result<(), Fail> {
-    let scenario = sample(rt.alloc())?;
+// A problem has a start and goals.
+fn problem(rt: &impl Abort, scenario: &Scenario) -> Result<(), Fail> {
     let [problem] = scenario.problems.as_slice() else {
         return Err(Fail::from("one problem"));
     };
@@ -122,4 +120,12 @@ fn a_problem_has_a_start_and_goals(rt: HostRuntime) -> Result<(), Fail> {
     );
     assert_eq!(rt; goal.speed, None);
     Ok(())
+}
+
+#[test]
+fn a_scenario_is_what_its_document_says(rt: HostRuntime) -> Result<(), Fail> {
+    let scenario = sample(rt.alloc())?;
+    lanelet(&rt, &scenario)?;
+    obstacles(&rt, &scenario)?;
+    problem(&rt, &scenario)
 }

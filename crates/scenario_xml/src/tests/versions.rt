@@ -18,91 +18,91 @@ fn told_in(
     Ok((read_scenario(alloc, text.as_bytes()).err(), start.len()))
 }
 
+const MISSING: [(&str, &str, Wanted); 7] = [
+    ("", "<obstacle/>", Wanted::Id),
+    ("", "<obstacle><role>parked</role></obstacle>", Wanted::Id),
+    ("", "<obstacle id='5'/>", Wanted::Role),
+    (
+        "",
+        "<obstacle id='5'><occupancySet/><type>car</type></obstacle>",
+        Wanted::Role,
+    ),
+    (
+        "",
+        "<obstacle id='5'><role>static</role></obstacle>",
+        Wanted::Shape,
+    ),
+    (
+        "<obstacle id='5'><shape><circle><radius>1</radius></circle></shape><role>dynamic</role>",
+        "<initialState><position><point><x>0</x><y>0</y></point></position></initialState></obstacle>",
+        Wanted::Time,
+    ),
+    ("", "<staticObstacle/>", Wanted::Id),
+];
+
+const UNSUPPORTED: [(&str, &str); 6] = [
+    ("<obstacle id='5'>", "<role>parked</role></obstacle>"),
+    (
+        "<obstacle id='5'><shape/>",
+        "<role>Static</role></obstacle>",
+    ),
+    ("<obstacle id='5'>", "<role/><role>static</role></obstacle>"),
+    (
+        "<obstacle id='5'>",
+        "<role>static<!-- --></role></obstacle>",
+    ),
+    (
+        "<obstacle id='5'><occupancySet/>",
+        "<role>moving</role></obstacle>",
+    ),
+    (
+        "<obstacle id='5'><role>static</role><shape/>",
+        "<occupancySet/></obstacle>",
+    ),
+];
+
+const OTHERS: [(&str, &str, Option<ScenarioFault>); 6] = [
+    (
+        "2018b",
+        "<obstacle id='5'><role> static </role><role>parked</role><shape><circle><radius>1</radius></circle></shape><initialState><position><point><x>0</x><y>0</y></point></position></initialState></obstacle><staticObstacle id='05'/>",
+        Some(ScenarioFault::DuplicateId(5)),
+    ),
+    (
+        "2018b",
+        "<dynamicObstacle id='5'><shape><circle><radius>1</radius></circle></shape><initialState><position><point><x>0</x><y>0</y></point></position><time><exact>0</exact></time></initialState></dynamicObstacle><obstacle id='5'/>",
+        Some(ScenarioFault::DuplicateId(5)),
+    ),
+    (
+        "2018b",
+        "<obstacle id='5'><role>static</role><shape/></obstacle>",
+        Some(ScenarioFault::BadShape(5)),
+    ),
+    ("2018b", "<Obstacle/><obstacles/><role/>", None),
+    ("2020a", "<obstacle/>", None),
+    (
+        "2020a",
+        "<obstacle id='5'><role>parked</role></obstacle>",
+        None,
+    ),
+];
+
 #[test]
 fn an_obstacle_of_2018b_moves_as_its_role_says(rt: HostRuntime) -> Result<(), Fail> {
-    let missing: [(&str, &str, Wanted); 7] = [
-        ("", "<obstacle/>", Wanted::Id),
-        ("", "<obstacle><role>parked</role></obstacle>", Wanted::Id),
-        ("", "<obstacle id='5'/>", Wanted::Role),
-        (
-            "",
-            "<obstacle id='5'><occupancySet/><type>car</type></obstacle>",
-            Wanted::Role,
-        ),
-        (
-            "",
-            "<obstacle id='5'><role>static</role></obstacle>",
-            Wanted::Shape,
-        ),
-        (
-            "<obstacle id='5'><shape><circle><radius>1</radius></circle></shape><role>dynamic</role>",
-            "<initialState><position><point><x>0</x><y>0</y></point></position></initialState></obstacle>",
-            Wanted::Time,
-        ),
-        ("", "<staticObstacle/>", Wanted::Id),
-    ];
-    for (before, piece, wanted) in missing {
-        let (fault, at) = told_in(rt.alloc(), "2018b", before, piece)?;
+    let alloc = rt.alloc();
+    for (before, piece, wanted) in MISSING {
+        let (fault, at) = told_in(alloc, "2018b", before, piece)?;
         assert_eq!(rt;
             fault,
             Some(ScenarioFault::Missing(wanted, at)),
             "at {piece}"
         );
     }
-    let unsupported: [(&str, &str); 6] = [
-        ("<obstacle id='5'>", "<role>parked</role></obstacle>"),
-        (
-            "<obstacle id='5'><shape/>",
-            "<role>Static</role></obstacle>",
-        ),
-        ("<obstacle id='5'>", "<role/><role>static</role></obstacle>"),
-        (
-            "<obstacle id='5'>",
-            "<role>static<!-- --></role></obstacle>",
-        ),
-        (
-            "<obstacle id='5'><occupancySet/>",
-            "<role>moving</role></obstacle>",
-        ),
-        (
-            "<obstacle id='5'><role>static</role><shape/>",
-            "<occupancySet/></obstacle>",
-        ),
-    ];
-    for (before, piece) in unsupported {
-        let (fault, at) = told_in(rt.alloc(), "2018b", before, piece)?;
+    for (before, piece) in UNSUPPORTED {
+        let (fault, at) = told_in(alloc, "2018b", before, piece)?;
         assert_eq!(rt; fault, Some(ScenarioFault::Unsupported(at)), "at {piece}");
     }
-    let others: [(&str, &str, Option<ScenarioFault>); 6] = [
-        (
-            "2018b",
-            "<obstacle id='5'><role> static </role><role>parked</role><shape><circle><radius>1</radius></circle></shape><initialState><position><point><x>0</x><y>0</y></point></position></initialState></obstacle><staticObstacle id='05'/>",
-            Some(ScenarioFault::DuplicateId(5)),
-        ),
-        (
-            "2018b",
-            "<dynamicObstacle id='5'><shape><circle><radius>1</radius></circle></shape><initialState><position><point><x>0</x><y>0</y></point></position><time><exact>0</exact></time></initialState></dynamicObstacle><obstacle id='5'/>",
-            Some(ScenarioFault::DuplicateId(5)),
-        ),
-        (
-            "2018b",
-            "<obstacle id='5'><role>static</role><shape/></obstacle>",
-            Some(ScenarioFault::BadShape(5)),
-        ),
-        ("2018b", "<Obstacle/><obstacles/><role/>", None),
-        ("2020a", "<obstacle/>", None),
-        (
-            "2020a",
-            "<obstacle id='5'><role>parked</role></obstacle>",
-            None,
-        ),
-    ];
-    for (version, piece, wanted) in others {
-        assert_eq!(rt;
-            told_in(rt.alloc(), version, "", piece)?.0,
-            wanted,
-            "at {piece}"
-        );
+    for (version, piece, wanted) in OTHERS {
+        assert_eq!(rt; told_in(alloc, version, "", piece)?.0, wanted, "at {piece}");
     }
     Ok(())
 }

@@ -4,18 +4,16 @@ ghost use Rattle.rulebook_order.specs.StepGraph.{HasRoom};
 ghost use Rattle.rulebook_order.specs.Sums.{sums};
 ghost use Rattle.violation_measures.specs.Binding.{IsBoundTo};
 ghost use Rattle.violation_measures.specs.Steps.{IsStep};
-ghost use Rattle.violation_measures.specs.Vectors.{width, step_vector, end_vector, run, trajectory_vector};
+ghost use Rattle.violation_measures.specs.Vectors.{width, step_vector, end_vector, run};
+ghost use Rattle.violation_measures.specs.Vectors.{trajectory_vector};
 
 use super::Bound;
-use crate::amount::{end_value, rule_value};
+use crate::amount::{MAX_AMOUNT, end_value, rule_value};
 use crate::measure::measure;
 use crate::source::FeatureSource;
 use crate::step::Step;
 use preorder::{NoMemory, Violation};
 use std::alloc::Global;
-
-/// The most that a step, or the end, adds to a number of a vector: 8 parts of weight 10^6 and value 10^9.
-pub const MAX_AMOUNT: u64 = 8_000_000_000_000_000;
 
 /// The most steps of a trajectory.
 pub const MAX_STEPS: usize = 2_000;
@@ -28,9 +26,11 @@ impl Bound {
         self.book.rules.as_slice().len()
     }
 
-    /// Adds each rule's value at the step: over its parts that are not final, the sum of weight times value.
+    /// Adds each rule's value at the step: over its parts that are not final, the sum of weight
+    /// times value.
     ///
-    /// The source agrees with the one bound in all that it finds, and in its bounds. Each number has room for `MAX_AMOUNT`. No memory is taken.
+    /// The source agrees with the one bound in all that it finds, and in its bounds. Each number
+    /// has room for `MAX_AMOUNT`. No memory is taken.
     pub fn add_step<S: FeatureSource>(&self, source: &S, step: &Step, out: &mut Violation)
         requires source { IsBoundTo (S.features source.now) self.now }
         requires step { IsStep step.now }
@@ -46,9 +46,11 @@ impl Bound {
         }
     }
 
-    /// Adds each rule's end value, over its final parts, at the step as the last: finished, without acceleration, turn and maneuver.
+    /// Adds each rule's end value, over its final parts, at the step as the last: finished, without
+    /// acceleration, turn and maneuver.
     ///
-    /// The source agrees with the one bound in all that it finds, and in its bounds. Each number has room for `MAX_AMOUNT`. No memory is taken.
+    /// The source agrees with the one bound in all that it finds, and in its bounds. Each number
+    /// has room for `MAX_AMOUNT`. No memory is taken.
     pub fn add_end<S: FeatureSource>(&self, source: &S, step: &Step, out: &mut Violation)
         requires source { IsBoundTo (S.features source.now) self.now }
         requires step { IsStep step.now }
@@ -84,9 +86,11 @@ impl Bound {
         Ok(vector)
     }
 
-    /// The vector of a trajectory: for each rule the sum of its values over all steps, and its end value at the last. For no steps all numbers are 0.
+    /// The vector of a trajectory: for each rule the sum of its values over all steps, and its end
+    /// value at the last. For no steps all numbers are 0.
     ///
-    /// The source agrees with the one bound in all that it finds, and in its bounds. There are at most `MAX_STEPS` steps.
+    /// The source agrees with the one bound in all that it finds, and in its bounds. There are at
+    /// most `MAX_STEPS` steps.
     pub fn trajectory_vector<S: FeatureSource>(
         &self,
         alloc: Global,
@@ -96,7 +100,8 @@ impl Bound {
         requires source { IsBoundTo (S.features source.now) self.now }
         requires few { length steps.now ≤ MAX_STEPS }
         requires steps { All IsStep steps.now }
-        ensures { IfOk result (λ vector. vector ≡ trajectory_vector (S.features source.now) self.now steps.now) }
+        ensures { IfOk result (λ vector. vector ≡ trajectory_vector
+            (S.features source.now) self.now steps.now) }
     {
         let mut vector = self.run(alloc, source, steps)?;
         if steps.is_empty() {

@@ -1,6 +1,8 @@
 ghost use Rattle.std.specs.Prelude.{◌≡◌, IfOk, IfErr, All, map};
 ghost use Rattle.rule_language.specs.Books.{IsBook};
-ghost use Rattle.violation_measures.specs.Binding.{MayBind, RuleMayBind, IsBookPart, IsBookRule, IsFaultOfPart, IsFaultOfParts, IsFaultOfRule, IsFaultOf, IsBoundTo};
+ghost use Rattle.violation_measures.specs.Binding.{MayBind, RuleMayBind, IsBookPart, IsBookRule};
+ghost use Rattle.violation_measures.specs.Binding.{IsFaultOfPart, IsFaultOfParts, IsFaultOfRule};
+ghost use Rattle.violation_measures.specs.Binding.{IsFaultOf, IsBoundTo};
 ghost use Rattle.violation_measures.specs.Resolved.{resolved_part, resolved_rules, resolved_book};
 
 use super::{Bound, BoundPart, BoundRule};
@@ -70,7 +72,8 @@ fn resolve_part<S: FeatureSource>(
     at_end: &[u32],
     part: &Part,
 ) -> Result<BoundPart, NoMemory>
-    ensures { IfOk result (λ bound. bound ≡ resolved_part (S.features source.now).find at_steps.now at_end.now part.now) }
+    ensures { IfOk result (λ bound. bound ≡ resolved_part
+        (S.features source.now).find at_steps.now at_end.now part.now) }
 {
     let used = if part.at_end { at_end } else { at_steps };
     Ok(BoundPart {
@@ -87,7 +90,8 @@ fn resolve_parts<S: FeatureSource>(
     at_end: &[u32],
     parts: &[Part],
 ) -> Result<List<BoundPart>, NoMemory>
-    ensures { IfOk result (λ bound. bound ≡ map (resolved_part (S.features source.now).find at_steps.now at_end.now) parts.now) }
+    ensures { IfOk result (λ bound. bound ≡ map (resolved_part
+        (S.features source.now).find at_steps.now at_end.now) parts.now) }
 {
     let mut bound = List::new(alloc);
     for part in parts {
@@ -103,7 +107,8 @@ fn resolve_rules<S: FeatureSource>(
     at_end: &[u32],
     rules: &[Rule],
 ) -> Result<List<BoundRule>, NoMemory>
-    ensures { IfOk result (λ bound. bound ≡ resolved_rules (S.features source.now).find at_steps.now at_end.now rules.now) }
+    ensures { IfOk result (λ bound. bound ≡ resolved_rules
+        (S.features source.now).find at_steps.now at_end.now rules.now) }
 {
     let mut bound = List::new(alloc);
     for rule in rules {
@@ -130,14 +135,17 @@ fn resolve_book<S: FeatureSource>(alloc: Global, book: &Book, source: &S) -> Res
     })
 }
 
-/// The book, bound to the source: each of its rules has a part, the source knows every feature, and no interval of a subexpression passes 10^18 in size.
+/// The book, bound to the source: each of its rules has a part, the source knows every feature, and
+/// no interval of a subexpression passes 10^18 in size.
 ///
-/// Rules are tried in order, a rule's parts in order, each part first for unknown features and then for range.
+/// Rules are tried in order, a rule's parts in order, each part first for unknown features and then
+/// for range.
 /// Features are found and constant subexpressions are worked out here, and not at each step.
 pub fn bind<S: FeatureSource>(alloc: Global, book: &Book, source: &S) -> Result<Bound, BindFault>
     requires { IsBook book.now }
     ensures book { IfOk result (λ bound. bound.book ≡ book.now) }
-    ensures exact { IfOk result (λ bound. bound ≡ resolved_book (S.features source.now).find book.now) }
+    ensures exact { IfOk result (λ bound. bound ≡ resolved_book
+        (S.features source.now).find book.now) }
     ensures bound { IfOk result (IsBoundTo (S.features source.now)) }
     ensures fault { IfErr result (IsFaultOf (S.features source.now) book.now.rules) }
 {

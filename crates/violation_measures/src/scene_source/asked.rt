@@ -7,7 +7,7 @@ ghost use Rattle.fixed_geometry.specs.Plane.{IsInRange};
 ghost use Rattle.violation_measures.specs.Steps.{IsStep};
 ghost use Rattle.violation_measures.specs.Sources.{IsKnown};
 ghost use Rattle.lanelet_network.specs.Lanes.{holds};
-ghost use Rattle.violation_measures.specs.Scenes.{center, ego, one_if, is_driven, in_lanelet, maneuver, known, number, numbered, bounds_in, value_in, features_of};
+ghost use Rattle.violation_measures.specs.Scenes.{center, ego, one_if, is_driven, in_lanelet, maneuver, number, numbered, bounds_in, feature_named, value_in, features_of};
 ghost use Rattle.violation_measures.specs.SceneSources.{scene_of};
 ghost use Rattle.violation_measures.specs.SceneLaws.{scene_sound};
 
@@ -50,7 +50,8 @@ fn is_driven(driven: Option<u32>, place: u32) -> bool
 // How many of the corners no lanelet holds.
 fn off_road(network: &Network, corners: &[Point]) -> usize
     requires { IsCornerList corners.now }
-    ensures value { result ≡ count_by (λ corner. not (list_any (holds corner) network.now)) corners.now }
+    ensures value { result ≡ count_by (λ corner. not
+        (list_any (holds corner) network.now)) corners.now }
     ensures few { result ≤ 4096 }
 {
     let mut count = 0;
@@ -93,7 +94,8 @@ impl SceneSource<'_> {
 
     // The place of the maneuver of the name.
     fn place(&self, name: &Name) -> Option<usize>
-        ensures { result ≡ position (λ other. bytes_eq other name.now) (scene_of self.now).maneuvers }
+        ensures { result ≡ position (λ other. bytes_eq other name.now)
+            (scene_of self.now).maneuvers }
     {
         self.maneuvers
             .iter()
@@ -113,8 +115,8 @@ impl SceneSource<'_> {
         }
     }
 
-    fn known(&self, name: &Name, argument: Option<&Argument>) -> Option<Feature>
-        ensures { result ≡ known (scene_of self.now) name.now (option_copied argument.entry) }
+    fn feature_named(&self, name: &Name, argument: Option<&Argument>) -> Option<Feature>
+        ensures { result ≡ feature_named (scene_of self.now) name.now (option_copied argument.entry) }
     {
         match argument {
             None => Feature::plain(name.as_slice()),
@@ -151,7 +153,7 @@ impl FeatureSource for SceneSource<'_> {
     ghost features = { λ source. features_of (scene_of source) };
 
     fn find(&self, name: &Name, argument: Option<&Argument>) -> Option<u32> {
-        match self.known(name, argument) {
+        match self.feature_named(name, argument) {
             Some(feature) => Some(feature.number()),
             None => None,
         }

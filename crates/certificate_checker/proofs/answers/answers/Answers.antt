@@ -1,9 +1,8 @@
-use Rattle.std.proofs.Common.{◌≡◌, ℕ, ◌+◌, ◌<◌, List, [], ◌∷◌, ◌++◌, length, take, get_or, refl, sym, ap, ◌∙◌, subst, arith}
+use Rattle.std.proofs.Common.{◌≡◌, ℕ, ◌+◌, [], ◌∷◌, ◌++◌, length, take, get_or, refl, sym, ap, ◌∙◌, arith}
 use Rattle.std.specs.Prelude.{reverse, slice_index_or}
 use Rattle.std.proofs.lemmas.List.{take_more, take_all}
 use Rattle.std.proofs.lemmas.Option.{slice_get_read, get_or_from_slice_get}
 use Rattle.certificate_checker.specs.GoodCertificate.{LeadsToLabel}
-use Rattle.certificate_checker.specs.Answers.{AreListsOf}
 use Rattle.certificate_checker.proofs.ListsOf.{AreListsOf-none, AreListsOf-push}
 use Rattle.certificate_checker.proofs.answers.answers.Goals as goal
 

@@ -1,4 +1,4 @@
-use Rattle.std.proofs.Common.{◌≡◌, ℕ, List, length, refl, ap, sym, ◌∙◌, subst}
+use Rattle.std.proofs.Common.{sym, ◌∙◌, subst}
 use Rattle.rulebook_order.specs.Answer.{IsAnswerList}
 use Rattle.rulebook_order.specs.NoWorseBy.{no_worse_by}
 use Rattle.rulebook_order.specs.laws.PairLaws.{no_worse_by-laws}

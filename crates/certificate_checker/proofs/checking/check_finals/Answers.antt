@@ -1,10 +1,9 @@
-use Rattle.std.proofs.Common.{◌≡◌, ℕ, ◌<◌, ◌^◌, List, length, get_or, refl, ap, sym, ◌∙◌, arith}
-use Rattle.std.specs.Prelude.{All, slice_index_or}
+use Rattle.std.proofs.Common.{◌≡◌, length, ap, ◌∙◌, arith}
+use Rattle.std.specs.Prelude.{slice_index_or}
 use Rattle.std.proofs.lemmas.Option.{slice_get-get_or}
 use Rattle.rulebook_order.specs.VectorOrder.{Holds}
-use Rattle.certificate_checker.specs.GoodCertificate.{pairs_of}
 use Rattle.certificate_checker.specs.Failing.{stray_final, no_goal_link, crowded_final}
-use Rattle.certificate_checker.specs.Labels.{AreReached, ends_of}
+use Rattle.certificate_checker.specs.Labels.{AreReached}
 use Rattle.certificate_checker.proofs.Conditions.{reached_of, ends_wide, finals_within}
 use Rattle.certificate_checker.proofs.Ends.{length-ends}
 use Rattle.certificate_checker.proofs.Pairs.{length-pairs_of}

@@ -1,5 +1,5 @@
-use Rattle.std.proofs.Common.{◌≡◌, ℕ, ◌<◌, List, [], length, refl, ap, sym, ◌∙◌, arith}
-use Rattle.std.specs.Prelude.{All, map, slice_index_or}
+use Rattle.std.proofs.Common.{◌≡◌, [], length, ap, ◌∙◌, arith}
+use Rattle.std.specs.Prelude.{map, slice_index_or}
 use Rattle.rulebook_order.specs.VectorOrder.{Holds}
 use Rattle.certificate_checker.specs.Answers.{vectors_of}
 use Rattle.certificate_checker.specs.Labels.{ends_of}
@@ -7,7 +7,7 @@ use Rattle.certificate_checker.proofs.Conditions.{reached_of, finals_within}
 use Rattle.certificate_checker.proofs.Ends.{length-ends}
 use Rattle.certificate_checker.proofs.Pairs.{length-pairs_of}
 use Rattle.certificate_checker.proofs.Paths.{final_ends}
-use Rattle.certificate_checker.specs.GoodCertificate.{pairs_of, answers_of}
+use Rattle.certificate_checker.specs.GoodCertificate.{pairs_of}
 use Rattle.certificate_checker.proofs.checking.check_rest.Goals as goal
 
 pub ends-requires : goal.ends-requires

@@ -1,6 +1,5 @@
-use Rattle.std.proofs.Common.{◌≡◌, ℕ, ◌<◌, ◌≤◌, ◌^◌, List, length, refl, ap, sym, ◌∙◌, arith}
+use Rattle.std.proofs.Common.{length, ap, arith}
 use Rattle.rulebook_order.specs.VectorOrder.{Holds}
-use Rattle.certificate_checker.specs.GoodCertificate.{pairs_of}
 use Rattle.certificate_checker.specs.Failing.{surplus_links, surplus_goal_links}
 use Rattle.certificate_checker.proofs.Conditions.{reached_of}
 use Rattle.certificate_checker.proofs.Pairs.{length-pairs_of}

@@ -1,9 +1,6 @@
-use Rattle.std.proofs.Common.{◌≡◌, ℕ, List, length, sym, ap, ◌∙◌, refl, subst, true, false}
-use Rattle.std.specs.Prelude.{slice_get, Some, None}
+use Rattle.std.proofs.Common.{◌≡◌, ℕ, List, length, sym, ◌∙◌, refl, subst, true}
 use Rattle.std.proofs.lemmas.Bool.{false≢true}
 use Rattle.std.proofs.lemmas.Option.{same_Some, none-some, slice_get_read, slice_get_past}
-use Rattle.certificate_checker.specs.GoodCertificate.{HasFirst}
-use Rattle.rulebook_order.specs.Certified.{IsGoalLabel}
 use Rattle.certificate_checker.proofs.finals.is_goal_label.Goals as goal
 
 pub is_goal-requires : goal.is_goal-requires

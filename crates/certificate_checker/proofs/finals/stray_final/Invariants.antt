@@ -1,4 +1,3 @@
-use Rattle.std.proofs.Common.{◌≡◌, ℕ, ◌<◌}
 use Rattle.certificate_checker.specs.GoodCertificate.{FinalIsAtGoal, Everywhere}
 use Rattle.certificate_checker.proofs.finals.stray_final.Given as goal
 

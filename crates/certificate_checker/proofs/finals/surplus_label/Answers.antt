@@ -1,7 +1,5 @@
-use Rattle.std.proofs.Common.{◌≡◌, ℕ, List, length, sym, ap, ◌∙◌, refl, subst, arith, below_more, ◌≤◌, ◌<◌}
-use Rattle.std.specs.Prelude.{slice_get, Some, None}
-use Rattle.std.proofs.lemmas.Option.{same_Some, slice_get_read}
-use Rattle.certificate_checker.specs.GoodCertificate.{HasNoSurplus}
+use Rattle.std.proofs.Common.{length, refl, arith}
+use Rattle.std.proofs.lemmas.Option.{slice_get_read}
 use Rattle.certificate_checker.proofs.finals.surplus_label.Goals as goal
 
 pub choices-requires : goal.choices-requires

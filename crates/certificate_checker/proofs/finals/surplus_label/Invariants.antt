@@ -1,4 +1,3 @@
-use Rattle.std.proofs.Common.{◌≡◌, ℕ, ◌<◌}
 use Rattle.certificate_checker.specs.GoodCertificate.{HasNoSurplus, Everywhere}
 use Rattle.certificate_checker.proofs.finals.surplus_label.Given as goal
 

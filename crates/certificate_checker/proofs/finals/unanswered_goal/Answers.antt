@@ -1,8 +1,6 @@
-use Rattle.std.proofs.Common.{◌≡◌, ℕ, ◌+◌, ◌<◌, ◌≤◌, ◌^◌, List, length, take, refl, sym, ◌∙◌, subst, arith, rules, below_more, length-take}
-use Rattle.std.specs.Prelude.{Some, slice_get}
+use Rattle.std.proofs.Common.{◌<◌, ◌^◌, length, take, refl, sym, ◌∙◌, arith, rules, below_more, length-take}
 use Rattle.std.proofs.lemmas.Bool.{iff_false}
 use Rattle.std.proofs.lemmas.Option.{slice_get_read}
-use Rattle.rulebook_order.specs.Certified.{goals_in, HasGoalLink, IsAnsweredAt}
 use Rattle.rulebook_order.specs.VectorOrder.{Holds}
 use Rattle.rulebook_order.proofs.GoalCount.{goals_in-goal, goals_in-other}
 use Rattle.certificate_checker.proofs.Ends.{goals_in-le, end_pair, pairs_and, link_here, link_off}

@@ -1,9 +1,7 @@
-use Rattle.std.proofs.Common.{◌≡◌, ℕ, ◌<◌, length, arith, sym, ap, ◌∙◌, refl}
-use Rattle.std.specs.Prelude.{List}
+use Rattle.std.proofs.Common.{length, arith, sym, ap, ◌∙◌}
 use Rattle.std.proofs.lemmas.Bool.{eqb-true, eqb-false}
 use Rattle.rulebook_order.proofs.Reached.{IsReached-built}
-use Rattle.certificate_checker.specs.GoodCertificate.{HasFirst, pairs_of, Everywhere, ParentIsEarlier, HasChoice}
-use Rattle.certificate_checker.specs.Failing.{Fails, no_label, late_parent, no_choice, no_link, AreLinked}
+use Rattle.certificate_checker.specs.Failing.{no_label, late_parent, no_choice, no_link}
 use Rattle.certificate_checker.proofs.Pairs.{length-pairs_of, pair_built}
 use Rattle.certificate_checker.proofs.labels.check_labels.Goals as goal
 

@@ -1,4 +1,4 @@
-use Rattle.std.proofs.Common.{◌≡◌, ℕ, ◌+◌, ◌<◌, ◌≤◌, List, length, take}
+use Rattle.std.proofs.Common.{ℕ, ◌+◌, ◌<◌, ◌≤◌, length}
 use Rattle.rulebook_order.specs.Sums.{sums}
 use Rattle.rulebook_order.specs.Certified.{IsLinkedTo}
 use Rattle.rulebook_order.specs.VectorOrder.{Holds}

@@ -1,4 +1,3 @@
-use Rattle.std.proofs.Common.{◌≡◌, ℕ, ◌<◌}
 use Rattle.certificate_checker.specs.GoodCertificate.{ParentIsEarlier, Everywhere}
 use Rattle.certificate_checker.proofs.labels.late_parent.Given as goal
 

@@ -1,9 +1,8 @@
-use Rattle.std.proofs.Common.{◌≡◌, ℕ, zero, suc, ◌+◌, ◌<◌, ◌≤◌, List, [], ◌∷◌, ◌++◌, length, take, arith, below_more, refl, ap, ◌∙◌, sym, rules}
+use Rattle.std.proofs.Common.{◌≡◌, ℕ, ◌<◌, ◌≤◌, List, [], ◌∷◌, ◌++◌, length, take, arith, below_more, refl, ◌∙◌, sym}
 use Rattle.std.specs.Prelude.{slice_get, Some}
-use Rattle.std.proofs.lemmas.Grind.{common_steps}
 use Rattle.rulebook_order.specs.Graph.{Graph, IsReached, pair_by}
 use Rattle.rulebook_order.proofs.Reached.{IsReached-first, IsReached-extend}
-use Rattle.certificate_checker.specs.GoodCertificate.{pairs_of, HasChoice, Everywhere}
+use Rattle.certificate_checker.specs.GoodCertificate.{pairs_of}
 use Rattle.certificate_checker.proofs.Pairs.{early_pair, pair_is, pairs_more, HasChoice-here, no_choice, reached_more}
 use Rattle.certificate_checker.proofs.labels.pairs.Goals as goal
 

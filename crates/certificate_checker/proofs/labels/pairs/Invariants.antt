@@ -1,4 +1,4 @@
-use Rattle.std.proofs.Common.{◌≡◌, ℕ, ◌+◌, ◌<◌, ◌≤◌, List, length, take}
+use Rattle.std.proofs.Common.{◌≡◌, ℕ, ◌+◌, ◌≤◌, List, take}
 use Rattle.std.specs.Prelude.{slice_get, Some}
 use Rattle.rulebook_order.specs.Graph.{IsReached}
 use Rattle.certificate_checker.specs.GoodCertificate.{HasChoice, Everywhere, pairs_of}

@@ -1,13 +1,11 @@
-use Rattle.std.proofs.Common.{◌≡◌, ℕ, ◌+◌, ◌<◌, ◌≤◌, List, [], ◌∷◌, ◌++◌, length, take, drop, arith, below_more, refl, ap, ◌∙◌, sym}
-use Rattle.std.specs.Prelude.{slice_get, Some}
+use Rattle.std.proofs.Common.{◌≡◌, ◌+◌, [], ◌∷◌, ◌++◌, length, take, drop, arith, below_more, refl, ap, ◌∙◌, sym}
 use Rattle.std.proofs.lemmas.List.{take_more, take-append-drop}
 use Rattle.std.proofs.lemmas.List.Sums.{sum_by_push, sum_by-append}
 use Rattle.std.proofs.lemmas.Bool.{iff_false}
 use Rattle.std.proofs.lemmas.Option.{slice_get_read}
 use Rattle.rulebook_order.proofs.Reached.{width_reached}
-use Rattle.certificate_checker.specs.GoodCertificate.{HasLinks, Everywhere, links_of}
+use Rattle.certificate_checker.specs.GoodCertificate.{links_of}
 use Rattle.rulebook_order.specs.VectorOrder.{Holds}
-use Rattle.rulebook_order.specs.Certified.{IsLinked}
 use Rattle.certificate_checker.proofs.Pairs.{HasLinks-here}
 use Rattle.certificate_checker.proofs.labels.unlinked_label.Goals as goal
 

@@ -1,4 +1,4 @@
-use Rattle.std.proofs.Common.{◌≡◌, ℕ, ◌+◌, ◌<◌, ◌≤◌, List, length, take}
+use Rattle.std.proofs.Common.{◌+◌, ◌≤◌, take}
 use Rattle.rulebook_order.specs.VectorOrder.{Holds}
 use Rattle.certificate_checker.specs.GoodCertificate.{HasLinks, Everywhere, links_of}
 use Rattle.certificate_checker.proofs.labels.unlinked_label.Given as goal

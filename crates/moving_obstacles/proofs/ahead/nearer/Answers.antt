@@ -12,12 +12,12 @@ returns-then-is_beside-clause-value c =
     let f : FitsSigned w64 c.lesser.result = search rules in
     let g : FitsSigned w64 c.args.least = c.ranges.least in
     let w : FitsSigned w64 c.args.width = c.ranges.width in
-    let a : FitsSigned w128 c.along-distance.result = search rules in
-    let s : FitsSigned w128 c.side.result = search rules in
+    let a : FitsSigned w128 c.ahead-distance.result = search rules in
+    let s : FitsSigned w128 c.beside.result = search rules in
     let distance = along c.args.position c.args.unit c.args.pose in
-    let beside : c.is_beside.result ≡ int_le (pos (unsigned_abs c.side.result)) c.args.width = simp to_z-of_z at c.is_beside.ensures in
-    let lesser : c.lesser.result ≡ int_min c.args.least c.along-distance.result = simp to_z-of_z at c.lesser.ensures.value in
-    let above : pos 0 <ℤ c.along-distance.result = omega (arith, ints, c.if-distance-gt0.true) in
+    let beside : c.is_beside.result ≡ int_le (pos (unsigned_abs c.beside.result)) c.args.width = simp to_z-of_z at c.is_beside.ensures in
+    let lesser : c.lesser.result ≡ int_min c.args.least c.ahead-distance.result = simp to_z-of_z at c.lesser.ensures.value in
+    let above : pos 0 <ℤ c.ahead-distance.result = omega (arith, ints, c.if-distance-gt0.true) in
     let IsAbove : ℤ → Type 0 = λ z. pos 0 <ℤ z in
-    let near = ap (λ (z : ℤ). int_le (pos (unsigned_abs z)) c.args.width) (sym c.side.ensures.value) ∙ sym beside ∙ c.if-is_beside.true in
-    simp to_z-of_z (distance_there c.args.position c.args.unit c.args.width c.args.pose c.args.least c.lesser.result (subst IsAbove c.along-distance.ensures.value above) near (lesser ∙ ap (int_min c.args.least) c.along-distance.ensures.value))
+    let near = ap (λ (z : ℤ). int_le (pos (unsigned_abs z)) c.args.width) (sym c.beside.ensures.value) ∙ sym beside ∙ c.if-is_beside.true in
+    simp to_z-of_z (distance_there c.args.position c.args.unit c.args.width c.args.pose c.args.least c.lesser.result (subst IsAbove c.ahead-distance.ensures.value above) near (lesser ∙ ap (int_min c.args.least) c.ahead-distance.ensures.value))

@@ -1,6 +1,7 @@
 use Rattle.std.proofs.Common.{ℕ, ◌+◌, ◌-◌, ◌++◌, ◌∙◌, sym, ap, List, map, length, append_assoc}
 use Rattle.std.specs.List.{range_with_len}
-use Rattle.trajectory_judge.specs.Judgements.{later_pairs, places}
+use Rattle.trajectory_judge.specs.Judgements.{places}
+use Rattle.rulebook_order.specs.Pairs.{later_pairs}
 use Rattle.trajectory_judge.proofs.Measuring.{pairs_from, with_each}
 use Rattle.trajectory_judge.proofs.judging.compare_all.Goals as goal
 

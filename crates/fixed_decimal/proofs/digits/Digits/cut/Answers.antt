@@ -23,15 +23,15 @@ returns-then-at-lt5 c =
     let e = cut_low ds (c.count-count.result - c.args.last) c.args.last all c.requires.last (omega arith) (omega (arith, c.if-at-lt5.true)) in
     (omega (arith, e, c.in-Some.ensures.0), c.in-Some.ensures.1)
 
-pub returns-then-value-eq-LIMIT : goal.returns-then-value-eq-LIMIT
-returns-then-value-eq-LIMIT c =
+pub returns-then-value-eq-MAX_VALUE : goal.returns-then-value-eq-MAX_VALUE
+returns-then-value-eq-MAX_VALUE c =
     let ds = all_digits c.args.self in
     let all = digits_whole c.args.self c.requires.digits in
     let e = cut_high ds (c.count-count.result - c.args.last) c.args.last all c.requires.last (omega arith) (omega (arith, c.if-at-lt5.false)) in
     omega (arith, e, c.in-Some.ensures.0)
 
-pub returns-else-value-eq-LIMIT : goal.returns-else-value-eq-LIMIT
-returns-else-value-eq-LIMIT c =
+pub returns-else-value-eq-MAX_VALUE : goal.returns-else-value-eq-MAX_VALUE
+returns-else-value-eq-MAX_VALUE c =
     let ds = all_digits c.args.self in
     let all = digits_whole c.args.self c.requires.digits in
     let e = cut_high ds (c.count-count.result - c.args.last) c.args.last all c.requires.last (omega arith) (omega (arith, c.if-at-lt5.false)) in

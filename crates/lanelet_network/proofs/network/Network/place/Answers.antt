@@ -8,5 +8,5 @@ returns-in-Some-clause-within c = (place_of_known c.args.self.now c.args.id c.in
 pub returns-in-Some-clause-id : goal.returns-in-Some-clause-id
 returns-in-Some-clause-id c = (place_of_known c.args.self.now c.args.id c.in-Some.place (sym c.in-Some.ensures.value)).same
 
-pub returns-in-None-clause-unknown : goal.returns-in-None-clause-unknown
-returns-in-None-clause-unknown c = (refl, not_known c.args.self.now c.args.id (sym c.in-None.ensures.value))
+pub returns-in-None-clause-unknown_id : goal.returns-in-None-clause-unknown_id
+returns-in-None-clause-unknown_id c = (refl, not_known c.args.self.now c.args.id (sym c.in-None.ensures.value))

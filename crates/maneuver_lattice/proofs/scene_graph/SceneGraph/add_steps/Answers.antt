@@ -4,7 +4,7 @@ use Rattle.std.proofs.lemmas.List.FromFn.{length-map-range_with_len}
 use Rattle.rulebook_order.specs.StepGraph.{HasRoom}
 use Rattle.rulebook_order.specs.Sums.{sums}
 use Rattle.violation_measures.specs.Vectors.{run}
-use Rattle.violation_measures.specs.declared.bound.adding.TheConstants.{MAX_AMOUNT}
+use Rattle.violation_measures.specs.declared.amount.TheConstants.{MAX_AMOUNT}
 use Rattle.violation_measures.specs.declared.step.Step.{Step}
 use Rattle.maneuver_lattice.specs.Driving.{step_at, steps_of}
 use Rattle.maneuver_lattice.specs.Moves.{scene_of}

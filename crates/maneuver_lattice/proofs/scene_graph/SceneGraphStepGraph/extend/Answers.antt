@@ -1,6 +1,6 @@
 use Rattle.std.proofs.Common.{ℕ, ◌*◌, subst}
 use Rattle.rulebook_order.specs.StepGraph.{HasRoom}
-use Rattle.violation_measures.specs.declared.bound.adding.TheConstants.{MAX_AMOUNT}
+use Rattle.violation_measures.specs.declared.amount.TheConstants.{MAX_AMOUNT}
 use Rattle.maneuver_lattice.specs.Moves.{scene_of}
 use Rattle.maneuver_lattice.proofs.GraphLaws.{passed, state_reached}
 use Rattle.maneuver_lattice.proofs.scene_graph.SceneGraphStepGraph.extend.Goals as goal

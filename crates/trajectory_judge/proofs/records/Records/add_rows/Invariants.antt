@@ -1,11 +1,12 @@
 use Rattle.std.proofs.Common.{◌≡◌, ◌+◌, ◌<◌, ◌^◌, Some, length}
-use Rattle.trajectory_judge.specs.Records.{AreRuns, read_rows, row_step}
+use Rattle.trajectory_judge.specs.Records.{AreRuns, row_step}
+use Rattle.reading.specs.Reading.{read_numbered}
 use Rattle.trajectory_judge.specs.Rows.{COLUMNS, IsOpen, row_width, rows_left}
 use Rattle.trajectory_judge.proofs.records.Records.add_rows.Given as goal
 
 abbrev pub invariant-loop-row : goal.invariant-loop-row
 invariant-loop-row l =
-    (read_rows (row_step l.maneuvers) (l.row + 1) (rows_left l.rows) l.self ≡ read_rows (row_step l.maneuvers) 1 (rows_left l.fn.rows) l.fn.self)
+    (read_numbered (row_step l.maneuvers) (l.row + 1) (rows_left l.rows) l.self ≡ read_numbered (row_step l.maneuvers) 1 (rows_left l.fn.rows) l.fn.self)
     × (l.row + length (rows_left l.rows) < 2 ^ 64)
     × IsOpen l.rows
     × (row_width l.rows ≡ Some COLUMNS)

@@ -10,17 +10,17 @@ returns-in-Ok-clause-some c found =
     let old = c.args.self.now.reader in
     let new = c.read_byte_record.new.self in
     let row = fields_of c.read_byte_record.new.row in
-    let r = rw found at (c.in-Ok.ensures.reads c.requires.whole c.requires.ready) in
-    let t = taken old new row c.requires.plain c.requires.known r in
+    let r = rw found at (c.in-Ok.ensures.reads c.requires.untrimmed c.requires.ready) in
+    let t = taken old new row c.requires.plain c.requires.told r in
     let e = r.5 refl c.requires.even in
     record {
       row = t.1;
       stays = record {
         plain = r.2 ∙ c.requires.plain;
-        whole = r.3 ∙ c.requires.whole;
+        untrimmed = r.3 ∙ c.requires.untrimmed;
         even = c.in-Ok.ensures.flexible ∙ c.requires.even;
-        ready = inl (c.in-Ok.ensures.ready c.requires.whole);
-        known = t.0;
+        ready = inl (c.in-Ok.ensures.ready c.requires.untrimmed);
+        told = t.0;
       };
       width = e.1;
       even = even old.expected new.expected _ e.0 e.1;
@@ -28,7 +28,7 @@ returns-in-Ok-clause-some c found =
 
 pub returns-in-Ok-clause-none : goal.returns-in-Ok-clause-none
 returns-in-Ok-clause-none c found =
-    ended c.args.self.now.reader c.read_byte_record.new.self _ c.requires.plain c.requires.known (rw found at (c.in-Ok.ensures.reads c.requires.whole c.requires.ready))
+    ended c.args.self.now.reader c.read_byte_record.new.self _ c.requires.plain c.requires.told (rw found at (c.in-Ok.ensures.reads c.requires.untrimmed c.requires.ready))
 
 pub returns-in-UnequalLengths-clause-uneven : goal.returns-in-UnequalLengths-clause-uneven
 returns-in-UnequalLengths-clause-uneven c e =
@@ -38,7 +38,7 @@ returns-in-UnequalLengths-clause-uneven c e =
     record {
       row = why.3;
       rest = rows_from (reader_state c.read_byte_record.new.self) (pending_of (Some c.read_byte_record.new.self.rdr.now) c.read_byte_record.new.self);
-      next = took old c.read_byte_record.new.self why.3 c.requires.plain c.requires.known why.4;
+      next = took old c.read_byte_record.new.self why.3 c.requires.plain c.requires.told why.4;
       some = rw width refl;
       uneven = rw width (λ same. why.2 (sym same ∙ why.5));
     }

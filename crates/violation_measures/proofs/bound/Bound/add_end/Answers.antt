@@ -7,7 +7,7 @@ use Rattle.violation_measures.specs.Sources.{IsKnown, at_step}
 use Rattle.violation_measures.specs.Steps.{IsStep, finish}
 use Rattle.violation_measures.specs.Vectors.{end_vector}
 use Rattle.violation_measures.specs.declared.bound.BoundPart.{BoundPart}
-use Rattle.violation_measures.specs.declared.bound.adding.TheConstants.{MAX_AMOUNT}
+use Rattle.violation_measures.specs.declared.amount.TheConstants.{MAX_AMOUNT}
 use Rattle.violation_measures.specs.declared.step.Step.{Step}
 use Rattle.violation_measures.specs.declared.used.TheConstants.{MAX_MEASURED}
 use Rattle.violation_measures.proofs.Added.{same_length, all_added, room_at}

@@ -6,7 +6,7 @@ use Rattle.violation_measures.specs.Resolved.{step_amount}
 use Rattle.violation_measures.specs.Sources.{IsKnown, at_step}
 use Rattle.violation_measures.specs.Vectors.{step_vector}
 use Rattle.violation_measures.specs.declared.bound.BoundPart.{BoundPart}
-use Rattle.violation_measures.specs.declared.bound.adding.TheConstants.{MAX_AMOUNT}
+use Rattle.violation_measures.specs.declared.amount.TheConstants.{MAX_AMOUNT}
 use Rattle.violation_measures.specs.declared.used.TheConstants.{MAX_MEASURED}
 use Rattle.violation_measures.proofs.Added.{same_length, all_added, room_at}
 use Rattle.violation_measures.proofs.AmountLaws.{IsFew, each_few, within_vector, past_vector, steps_measurable, step_vector_is}

@@ -1,7 +1,7 @@
 use Rattle.std.proofs.Common.{rules, ◌<◌, ℕ, List, length, take, ap, sym, subst, ◌∙◌}
 use Rattle.std.specs.Prelude.{replicate}
 use Rattle.rulebook_order.specs.StepGraph.{HasRoom}
-use Rattle.violation_measures.specs.declared.bound.adding.TheConstants.{MAX_AMOUNT}
+use Rattle.violation_measures.specs.declared.amount.TheConstants.{MAX_AMOUNT}
 use Rattle.violation_measures.proofs.VectorLaws.{run_none, run_after, run_up_to, room_after, steps_within}
 use Rattle.violation_measures.proofs.bound.Bound.run.Goals as goal
 

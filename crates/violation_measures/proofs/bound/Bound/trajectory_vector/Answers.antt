@@ -1,6 +1,6 @@
 use Rattle.std.proofs.Common.{rules, ◌≡◌, ◌<◌, ℕ, List, length, ap, sym, subst, ◌∙◌}
 use Rattle.rulebook_order.specs.StepGraph.{HasRoom}
-use Rattle.violation_measures.specs.declared.bound.adding.TheConstants.{MAX_AMOUNT}
+use Rattle.violation_measures.specs.declared.amount.TheConstants.{MAX_AMOUNT}
 use Rattle.violation_measures.proofs.VectorLaws.{run_up_to, room_after, vector_after, vector_of_none}
 use Rattle.violation_measures.proofs.bound.Bound.trajectory_vector.Goals as goal
 

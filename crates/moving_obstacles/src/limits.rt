@@ -1,0 +1,4 @@
+//! How far a traffic tells distances apart. The limit stands here once, and definitions cite it.
+
+/// The largest distance or gap that is told apart, in 0.1 mm.
+pub const MAX_DISTANCE: i64 = 10_000_000;

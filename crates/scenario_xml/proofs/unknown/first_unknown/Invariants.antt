@@ -1,6 +1,0 @@
-use Rattle.std.proofs.Common.{◌≡◌, drop}
-use Rattle.scenario_xml.specs.Scenarios.{first_in}
-use Rattle.scenario_xml.proofs.unknown.first_unknown.Given as goal
-
-abbrev pub invariant-loop-item : goal.invariant-loop-item
-invariant-loop-item g l = first_in (g.T.Refers.unknown l.known) (drop l.item-index l.items) ≡ first_in (g.T.Refers.unknown l.known) l.items
