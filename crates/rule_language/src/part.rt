@@ -13,7 +13,7 @@ use preorder::Name;
 pub struct Part {
     /// From 1 to `MAX_WEIGHT` in a well-formed book.
     pub weight: u64,
-    /// What its value is, where it is above 0.
+    /// What it measures.
     pub expr: Expr,
     /// Whether it counts once at the end.
     pub at_end: bool,

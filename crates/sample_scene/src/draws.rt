@@ -4,7 +4,7 @@ ghost use Rattle.sample_scene.specs.Draws.{following, given_by};
 /// A sequence of pseudo-random numbers.
 #[derive(Clone, Copy)]
 pub struct Draws {
-    /// What the next is made from, below 2^31.
+    /// What the next is made from.
     pub state: u32,
 }
 

@@ -25,7 +25,7 @@ use Rattle.scenario_model.specs.declared.limits.TheConstants.{MAX_BOUND_POINTS}
 unfoldable pub is_known : List ℕ → ℕ → Bool
 is_known ids id = list_any (λ known_ids. id == known_ids) ids
 
--- a bound of the lanelet with an id: 2 to 2,048 points
+-- a bound of the lanelet with an id: 2 to `MAX_BOUND_POINTS` points
 unfoldable pub bound : Document → ℕ → ℕ → Wanted → Result (List Point) ScenarioFault
 bound document k id what =
     wanted_child document k what >>= λ b.

@@ -62,8 +62,8 @@ fn document_in<'a>(alloc: Global, bytes: &'a [u8]) -> Result<Tree<'a>, ScenarioF
 }
 
 /// The scenario of a document's bytes, or its first fault in the document's order. The document is
-/// CommonRoad XML of version 2020a or 2018b, in a profile that is this project's own. Lengths are kept
-/// in 0.1 mm, angles in microradians, speeds in mm/s, times in ticks.
+/// CommonRoad XML of version 2020a or 2018b, in a profile that is this project's own. Lengths are
+/// kept in 0.1 mm, angles in microradians, speeds in mm/s, times in ticks.
 #[tactic(auto, unfolding(crate::specs::Scenarios::scenario))]
 pub fn read_scenario(alloc: Global, bytes: &[u8]) -> Result<Scenario, ScenarioFault>
     ensures exact { Gives is_memory (λ s. s) result (scenario bytes.now) }

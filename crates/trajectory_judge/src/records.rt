@@ -203,8 +203,8 @@ fn records_of(alloc: Global, bytes: &[u8], maneuvers: &[Name]) -> Result<Records
 }
 
 /// The recordings of a file's bytes, or the first fault. A step's maneuver is the place of its name
-/// among these, counted from 0. There are at most 2,048 names; of two that are equal the first
-/// counts.
+/// among these, counted from 0. There are at most `MAX_MANEUVERS` names; of two that are equal the
+/// first counts.
 pub fn read_records(alloc: Global, bytes: &[u8], maneuvers: &[Name]) -> Result<Records, RecordFault>
     requires { length maneuvers.now ≤ MAX_MANEUVERS }
     ensures exact { Gives is_memory (λ records. records) result

@@ -19,7 +19,9 @@ use Rattle.fixed_geometry.specs.Shapes.{rectangle}
 use Rattle.lanelet_network.specs.Lanes.{Lane, has_id, holds}
 use Rattle.scenario_model.specs.declared.problem.Span.{Span}
 use Rattle.violation_measures.specs.Intervals.{IsIn}
-use Rattle.violation_measures.specs.Scenes.{Scene, one_if, ego, plain, in_lanelet, maneuver, feature_named, value_in, bounds_in, number, numbered, features_of, HasTable}
+use Rattle.violation_measures.specs.Scenes.{Scene, one_if, ego, plain, in_lanelet, maneuver}
+use Rattle.violation_measures.specs.Scenes.{feature_named, value_in, bounds_in, number, numbered}
+use Rattle.violation_measures.specs.Scenes.{features_of, HasTable}
 use Rattle.violation_measures.specs.Sources.{AreSound}
 use Rattle.violation_measures.specs.Steps.{IsStep}
 use Rattle.violation_measures.specs.declared.feature.Feature.{Feature}
@@ -262,7 +264,8 @@ record IsFound (scene : Scene) (name : List ℕ) (argument : Option Argument) (n
   number_is : n ≡ number row
 
 found_in : (scene : Scene) (name : List ℕ) (argument : Option Argument) (n : ℕ)
-    (found : Option Feature) → feature_named scene name argument ≡ found → option_map number found ≡ Some n
+    (found : Option Feature) → feature_named scene name argument ≡ found
+    → option_map number found ≡ Some n
     → IsFound scene name argument n
 found_in scene name argument n None is e = absurd cc
 found_in scene name argument n (Some row) is e =
@@ -282,7 +285,8 @@ both_some (Some row) = (λ h. h, λ h. h)
 
 row_of_number : (scene : Scene) → IsScene scene
     → (name : List ℕ) (argument : Option Argument) (n : ℕ) (row : Feature)
-    → option_map number (feature_named scene name argument) ≡ Some n → feature_named scene name argument ≡ Some row
+    → option_map number (feature_named scene name argument) ≡ Some n
+    → feature_named scene name argument ≡ Some row
     → numbered n ≡ row
 row_of_number scene h name argument n row e is =
     let same : option_map number (Some row) ≡ Some n = ap (option_map number) (sym is) ∙ e in

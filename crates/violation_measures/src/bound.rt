@@ -11,11 +11,11 @@ pub use binding::bind;
 /// A part as it is worked out at each step.
 #[derive(Drop)]
 pub struct BoundPart {
-    /// 1 to `MAX_WEIGHT`.
+    /// At most `MAX_WEIGHT`.
     pub weight: u64,
     /// Whether it counts once at the end, and at no step.
     pub at_end: bool,
-    /// What its value is, where it is above 0.
+    /// What it counts, cut to 0 below and to `MAX_PART_VALUE` above.
     pub formula: Formula,
 }
 

@@ -41,12 +41,13 @@ impl<'a> SceneSource<'a> {
     /// `wrong_way`: 1 where some lanelet holds the center, and each that does leads more back than
     /// ahead there, else 0.
     /// `speed`, `accel`, `turn`, `tick`: the step's.
-    /// `gap`: the least box gap to an obstacle, 10^7 at most and where there is none. `headway`:
-    /// how far ahead the next obstacle is, in the same way.
+    /// `gap`: the least box gap to an obstacle, `MAX_DISTANCE` at most and where there is none.
+    /// `headway`: how far ahead the next obstacle is, in the same way.
     /// `in_lanelet(ID)`, for a known lanelet: 1 where it holds the center, else 0.
     /// `maneuver(NAME)`, for one of the names: 1 where the step belongs to it, else 0.
     ///
-    /// The ego's length and width are 1 to 10^7, and there are at most `MAX_MANEUVERS` names.
+    /// The ego's length and width are 1 to `MAX_EXTENT`, and there are at most `MAX_MANEUVERS`
+    /// names.
     pub fn new(
         network: &'a Network,
         traffic: &'a Traffic,

@@ -7,7 +7,9 @@ ghost use Rattle.fixed_geometry.specs.Plane.{IsInRange};
 ghost use Rattle.violation_measures.specs.Steps.{IsStep};
 ghost use Rattle.violation_measures.specs.Sources.{IsKnown};
 ghost use Rattle.lanelet_network.specs.Lanes.{holds};
-ghost use Rattle.violation_measures.specs.Scenes.{center, ego, one_if, is_driven, in_lanelet, maneuver, number, numbered, bounds_in, feature_named, value_in, features_of};
+ghost use Rattle.violation_measures.specs.Scenes.{center, ego, one_if, is_driven, in_lanelet};
+ghost use Rattle.violation_measures.specs.Scenes.{maneuver, number, numbered, bounds_in};
+ghost use Rattle.violation_measures.specs.Scenes.{feature_named, value_in, features_of};
 ghost use Rattle.violation_measures.specs.SceneSources.{scene_of};
 ghost use Rattle.violation_measures.specs.SceneLaws.{scene_sound};
 
@@ -116,7 +118,8 @@ impl SceneSource<'_> {
     }
 
     fn feature_named(&self, name: &Name, argument: Option<&Argument>) -> Option<Feature>
-        ensures { result ≡ feature_named (scene_of self.now) name.now (option_copied argument.entry) }
+        ensures { result ≡ feature_named (scene_of self.now) name.now
+            (option_copied argument.entry) }
     {
         match argument {
             None => Feature::plain(name.as_slice()),
