@@ -21,8 +21,6 @@ mod same;
 mod script;
 mod steps;
 mod sum;
-#[cfg(test)]
-mod tests;
 
 pub use aggregation::test_aggregation;
 pub use augmentation::test_augmentation;

@@ -11,8 +11,6 @@
 mod delivery;
 mod loading;
 mod outcome;
-#[cfg(test)]
-mod tests;
 
 pub use delivery::{Reply, deliver};
 pub use loading::{load_bytes, save_bytes};

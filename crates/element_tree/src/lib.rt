@@ -14,8 +14,6 @@ mod names;
 mod node;
 mod reader;
 mod tag;
-#[cfg(test)]
-mod tests;
 mod token;
 mod tree;
 

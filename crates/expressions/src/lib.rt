@@ -10,8 +10,6 @@ mod fault;
 mod limits;
 mod measure;
 mod reader;
-#[cfg(test)]
-mod tests;
 mod token;
 mod tree;
 mod writer;

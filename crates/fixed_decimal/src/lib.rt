@@ -7,8 +7,6 @@ mod digits;
 mod limits;
 mod parts;
 mod rounding;
-#[cfg(test)]
-mod tests;
 
 ghost use Rattle.std.specs.Prelude.{◌≡◌, ◌≤◌, ◌++◌, length, unsigned_abs, IfOk};
 ghost use Rattle.fixed_decimal.specs.Decimals.{Decimal, Spells};

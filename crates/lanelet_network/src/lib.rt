@@ -9,8 +9,6 @@ mod bound;
 mod fault;
 mod lane;
 mod network;
-#[cfg(test)]
-mod tests;
 
 pub use fault::NetworkFault;
 pub use network::Network;

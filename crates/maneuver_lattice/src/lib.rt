@@ -28,8 +28,6 @@ mod start;
 mod state;
 mod steps;
 mod tables;
-#[cfg(test)]
-mod tests;
 mod values;
 
 pub use fault::{Key, LatticeFault, LatticeKind};

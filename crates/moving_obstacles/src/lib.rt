@@ -12,8 +12,6 @@ mod indexed_track;
 mod limits;
 mod nearness;
 mod placing;
-#[cfg(test)]
-mod tests;
 mod track;
 mod traffic;
 

@@ -16,8 +16,6 @@ mod file_store;
 mod memory_sink;
 mod memory_store;
 mod std_sink;
-#[cfg(test)]
-mod tests;
 
 pub use file_store::FileStore;
 pub use memory_sink::MemorySink;

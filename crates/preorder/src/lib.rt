@@ -11,8 +11,6 @@ mod memory;
 mod name;
 mod order;
 mod row;
-#[cfg(test)]
-mod tests;
 mod violation;
 
 pub use limits::{MAX_NAME, MAX_RULES};

@@ -7,8 +7,6 @@
 #![tactic(auto)]
 
 mod lines;
-#[cfg(test)]
-mod tests;
 mod words;
 
 pub use lines::split_line;

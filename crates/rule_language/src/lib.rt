@@ -13,8 +13,6 @@ mod line_file;
 mod named;
 mod part;
 mod table;
-#[cfg(test)]
-mod tests;
 mod writing;
 
 pub use book::{Book, BookFault, Rule, part_of, read_book};

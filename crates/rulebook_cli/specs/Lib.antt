@@ -26,5 +26,4 @@ pub mod Sampled
 pub mod Help
 pub mod Asked
 pub mod Headline
-pub mod ExitStatus
 pub mod Laws

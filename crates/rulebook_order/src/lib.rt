@@ -18,8 +18,6 @@ mod pair;
 mod pairs;
 mod step_graph;
 mod steps;
-#[cfg(test)]
-mod tests;
 mod vector_order;
 mod verdict;
 

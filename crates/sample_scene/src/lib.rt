@@ -15,7 +15,5 @@ mod literal;
 mod maneuvers;
 mod rules;
 mod sample;
-#[cfg(test)]
-mod tests;
 
 pub use sample::{MAX_NUMBER, SampleScene, sample_scene};

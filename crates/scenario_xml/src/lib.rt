@@ -24,8 +24,6 @@ mod scenario;
 mod shape;
 mod span;
 mod state;
-#[cfg(test)]
-mod tests;
 mod unknown_id;
 mod versions;
 

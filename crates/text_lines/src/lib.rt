@@ -8,9 +8,6 @@ ghost use Rattle.text_lines.specs.Lines.{cell, cells, row_line, word};
 
 use std::alloc::{AllocError, Global};
 
-#[cfg(test)]
-mod tests;
-
 /// Appends a space and a word.
 pub fn push_word(out: &mut Vec<u8>, text: &[u8]) -> Result<(), AllocError>
     ensures { OnOk result (out.new.items ≡ out.old.items ++ word text.now) }

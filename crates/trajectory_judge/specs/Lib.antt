@@ -5,4 +5,3 @@ pub mod Records
 pub mod Layers
 pub mod Peeling
 pub mod Judgements
-pub mod Driven

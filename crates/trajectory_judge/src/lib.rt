@@ -17,8 +17,6 @@ mod layers;
 mod limits;
 mod records;
 mod rows;
-#[cfg(test)]
-mod tests;
 
 pub use fault::RecordFault;
 pub use judged::Judged;

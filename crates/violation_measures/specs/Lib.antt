@@ -4,7 +4,6 @@ pub mod Bounded
 pub mod Checked
 pub mod Formulas
 pub mod Intervals
-pub mod Lamps
 pub mod Measured
 pub mod Ranges
 pub mod Resolved

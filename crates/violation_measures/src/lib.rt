@@ -23,8 +23,6 @@ mod resolve;
 mod scene_source;
 mod source;
 mod step;
-#[cfg(test)]
-mod tests;
 mod used;
 mod value;
 

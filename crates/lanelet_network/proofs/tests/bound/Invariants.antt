@@ -1,6 +1,0 @@
-use Rattle.std.proofs.Common.{◌≡◌, length, All}
-use Rattle.scenario_model.specs.Scenario.{IsRead}
-use Rattle.lanelet_network.proofs.tests.bound.Given as goal
-
-abbrev pub invariant-loop-x : goal.invariant-loop-x
-invariant-loop-x l = (length l.bound ≡ l.x-index) × All IsRead l.bound

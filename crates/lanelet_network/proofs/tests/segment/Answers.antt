@@ -1,5 +1,0 @@
-use Rattle.lanelet_network.proofs.Scenes.{two_read}
-use Rattle.lanelet_network.proofs.tests.segment.Goals as goal
-
-pub returns : goal.returns
-returns c = two_read c.args.from c.args.to c.new-bound.result c.push.new.self c.push-2.new.self c.new-bound.ensures c.in_ok-push.ensures.ok c.in_ok-push-2.ensures.ok c.requires.from c.requires.to
