@@ -51,7 +51,7 @@ fn row(alloc: Global, count: u16, y: i32) -> Result<List<Point>, NoMemory>
     Ok(bound)
 }
 
-// The network of one lanelet, which has no neighbour.
+// The network of these lanelets.
 fn network(alloc: Global, lanelets: List<Lanelet>) -> Result<Network, Fail>
     requires few { length lanelets ≤ MAX_LANELETS }
     requires each { All (IsLanelet (map (λ (l : Piece). l.id) lanelets)) lanelets }
@@ -63,6 +63,7 @@ fn network(alloc: Global, lanelets: List<Lanelet>) -> Result<Network, Fail>
     Ok(Network::new(alloc, &scenario)?)
 }
 
+// The network of one lanelet, which has no neighbour.
 fn alone(alloc: Global, id: u64, left: List<Point>, right: List<Point>) -> Result<Network, Fail>
     requires id { id < PAST_IDS }
     requires left { IsBound left }
