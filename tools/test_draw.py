@@ -36,6 +36,11 @@ class Drawing(unittest.TestCase):
         self.assertEqual(re.findall(r"<th class=differ>(\w+)", text), ["accel", "turn"])
         self.assertNotIn("http://", text.replace("http://www.w3.org/2000/svg", ""))
 
+    def test_what_is_near_is_shown(self):
+        # driven: -2.25 to 12.25 ahead, -0.9 to 4.9 to the left; the goal reaches from -6 to 6; 4 m more on each side
+        text, _ = drawn(SCENE.with_suffix(".plan"))
+        self.assertIn('<svg viewBox="-6.250 -10.000 22.500 20.000">', text)
+
     def test_what_check_prints_is_drawn_too(self):
         self.assertEqual(drawn(SCENE.with_suffix(".check"))[1], drawn(SCENE.with_suffix(".plan"))[1])
 
