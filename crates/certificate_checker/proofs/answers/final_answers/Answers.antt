@@ -4,7 +4,7 @@ use Rattle.std.proofs.lemmas.List.{take_more, take_all}
 use Rattle.std.proofs.lemmas.Option.{slice_get_read, get_or_from_slice_get}
 use Rattle.certificate_checker.specs.GoodCertificate.{LeadsToLabel}
 use Rattle.certificate_checker.proofs.ListsOf.{AreListsOf-none, AreListsOf-push}
-use Rattle.certificate_checker.proofs.answers.answers.Goals as goal
+use Rattle.certificate_checker.proofs.answers.final_answers.Goals as goal
 
 pub loop-number-init : goal.loop-number-init
 loop-number-init c = rw c.new-answers.ensures (AreListsOf-none c.args.labels.now c.args.ends.now)
