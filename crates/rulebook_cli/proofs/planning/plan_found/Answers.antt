@@ -1,4 +1,4 @@
-use Rattle.std.proofs.Common.{◌≡◌, ◌++◌, length, sym, subst, ap, ◌∙◌, arith}
+use Rattle.std.proofs.Common.{◌++◌, length, sym, subst, ap, ◌∙◌, arith}
 use Rattle.rulebook_order.specs.Answer.{IsAnswerList}
 use Rattle.rulebook_order.specs.NoWorseBy.{NoWorseBy, no_worse_by}
 use Rattle.rulebook_order.specs.VectorOrder.{Holds}
