@@ -1,8 +1,11 @@
-ghost use Rattle.std.specs.Prelude.{◌≡◌, length, IfOk};
+ghost use Rattle.std.specs.Prelude.{◌≡◌, ◌≤◌, length, IfOk};
 ghost use Rattle.preorder.specs.Violation.{IsWidth};
+ghost use Rattle.preorder.specs.declared.limits.TheConstants.{MAX_RULES};
 
 use preorder::{Name, Preorder, Row, Violation};
-use rulebook_order::{PairOrder, VectorOrder, Verdict, compare, front_of, why_not};
+use rulebook_order::{
+    ChainOrder, PairOrder, ParetoOrder, RankOrder, VectorOrder, Verdict, compare, front_of, why_not,
+};
 use std::alloc::Global;
 use std::test::Fail;
 
@@ -70,5 +73,34 @@ fn a_win_on_an_equal_rule_excuses_nothing(rt: HostRuntime) -> Result<(), Fail> {
     assert!(rt; !is_no_worse(&pairs, &[0, 1], &[1, 0]));
     assert!(rt; !is_no_worse(&pairs, &[1, 0], &[0, 1]));
     assert!(rt; pairs.no_worse(&[0, 1], &[0, 1]));
+    Ok(())
+}
+
+// Whether the rules stand in a chain, and whether none is above another.
+fn shape(rules: usize, statements: &[(usize, usize)]) -> Result<(bool, bool), Fail>
+    requires { rules ≤ MAX_RULES }
+{
+    let order = Preorder::from_statements(rules, statements)?;
+    Ok((
+        ChainOrder::new(&order).is_some(),
+        ParetoOrder::new(&order).is_some(),
+    ))
+}
+
+#[test]
+fn each_order_takes_its_shapes(rt: HostRuntime) -> Result<(), Fail> {
+    assert_eq!(rt; shape(3, &[(0, 1)])?, (false, false));
+    assert_eq!(rt; shape(1, &[])?, (true, true));
+    assert_eq!(rt; shape(2, &[(0, 1), (1, 0)])?, (false, true));
+    assert_eq!(rt; shape(2, &[(1, 0)])?, (true, false));
+    Ok(())
+}
+
+#[test]
+fn a_win_on_a_rule_above_excuses(rt: HostRuntime) -> Result<(), Fail> {
+    let ranks = RankOrder::new(&Preorder::from_statements(3, &[(0, 1)])?);
+    assert_eq!(rt; ranks.width(), 3);
+    assert!(rt; is_no_worse(&ranks, &[0, 5, 0], &[1, 0, 0]));
+    assert!(rt; !is_no_worse(&ranks, &[0, 5, 1], &[1, 0, 0]));
     Ok(())
 }

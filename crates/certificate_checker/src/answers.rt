@@ -37,8 +37,10 @@ fn reversed(alloc: Global, items: &[u32]) -> Result<List<u32>, NoMemory>
     Ok(list)
 }
 
-/// The finished vector of each final, with the choices to it.
-pub fn answers(
+/// The finished vector of each final, with the choices that the parents give from the start to it.
+/// `ends` has the finished vector of each label. Each final is the number of a label, and each label
+/// but the first has an earlier one as its parent. It takes memory.
+pub fn final_answers(
     alloc: Global,
     labels: &[CertLabel],
     ends: &[Violation],

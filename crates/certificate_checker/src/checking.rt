@@ -9,7 +9,7 @@ ghost use Rattle.certificate_checker.specs.Answers.{vectors_of, FollowParents, A
 ghost use Rattle.certificate_checker.specs.Failing.{AreLinked, AreAnswered, Fails, RejectedBy};
 ghost use Rattle.certificate_checker.specs.Labels.{ends_of};
 
-use crate::answers::answers;
+use crate::answers::final_answers;
 use crate::checked::{Checked, Rejection};
 use crate::finals::{
     crowded_final, ends, goals, marks, stray_final, surplus_label, unanswered_goal,
@@ -114,7 +114,7 @@ fn check_rest<G: StepGraph, O: VectorOrder>(
     let ends = ends(alloc, graph, pairs)?;
     check_finals(alloc, graph, order, cert, pairs, ends.as_slice())?;
     check_surplus(graph, order, cert, pairs)?;
-    let answers = answers(
+    let answers = final_answers(
         alloc,
         cert.labels.as_slice(),
         ends.as_slice(),

@@ -14,6 +14,7 @@ mod finals;
 mod labels;
 mod laws;
 
+pub use answers::final_answers;
 pub use checked::{Attained, Checked, Rejection};
 pub use checking::check;
 pub use laws::{good_shows_the_answer, one_finding};

@@ -1,3 +1,4 @@
 pub mod Copied
 pub mod HasTexts
 pub mod ShortTexts
+pub mod Shows

@@ -14,6 +14,8 @@ use Rattle.label_search.specs.declared.arrival.Arrival.{Arrival}
 use Rattle.label_search.specs.declared.candidate.Candidate.{Candidate}
 use Rattle.label_search.specs.Candidates.{IsCovered, HaveWidth}
 use Rattle.label_search.specs.Search.{pair_of}
+use Rattle.rulebook_order.specs.VectorOrder.{IsVectorOrder}
+use Rattle.label_search.specs.Settling.{HasNumber}
 use Rattle.label_search.specs.Linking.{IsFinalOf, IsAnswered, IsGoalLinked, IsCoveredBy}
 use Rattle.label_search.proofs.Links.{linked-still, linked-now}
 
@@ -27,6 +29,15 @@ module _ {S : Type 0} (g : Graph S) (laws : IsStepGraph g) (arrivals : List (Arr
   finals_left candidates left new all here from = All-weaker (Contains left) (IsFinalOf g arrivals)
       (λ x h. elim (from x h) [ inl old ↦ All-contains (IsFinalOf g arrivals) candidates x all old | inr e ↦ subst (IsFinalOf g arrivals) e here ])
       left (All-contains_itself left)
+
+  -- the final with the number of an arrival is no worse than its finished vector
+  pub own_final : (no_worse : List ℕ → List ℕ → Bool) → IsVectorOrder g.width no_worse → (candidates : List Candidate) → All (IsFinalOf g arrivals) candidates → (number : ℕ) (x : Arrival S) → slice_get arrivals number ≡ Some x → HasNumber candidates number → (cover : IsCovered no_worse candidates (finished g x.state x.vector)) × (number ≡ cover.by.number)
+  own_final no_worse order candidates all number x at own =
+      let final : IsFinalOf g arrivals own.candidate = All-contains (IsFinalOf g arrivals) candidates own.candidate all own.listed in
+      let same : final.arrival ≡ x = same_Some _ _ (sym final.arrival_is ∙ (ap (slice_get arrivals) own.number_is ∙ at)) in
+      let vector : own.candidate.vector ≡ finished g x.state x.vector = final.vector_is ∙ ap (λ (y : Arrival S). finished g y.state y.vector) same in
+      let wide : length own.candidate.vector ≡ g.width = All-contains (λ y. length y.vector ≡ g.width) candidates own.candidate (final_widths candidates all) own.listed in
+      (record { by = own.candidate; listed = own.listed; no_worse_is = subst (λ v. IsTrue (no_worse own.candidate.vector v)) vector (order.reflexive own.candidate.vector wide) }, sym own.number_is)
 
   pub answers_more : (no_worse : List ℕ → List ℕ → Bool) (candidates left : List Candidate) (n : ℕ) (x : Arrival S) → n < length arrivals → x ≡ get_or arrivals n x → All (IsAnswered g no_worse candidates) (take n arrivals) → ((v : List ℕ) → length v ≡ g.width → IsCovered no_worse candidates v → IsCovered no_worse left v) → IsAnswered g no_worse left x → All (IsAnswered g no_worse left) (take (n + 1) arrivals)
   answers_more no_worse candidates left n x inside is all keeps here =

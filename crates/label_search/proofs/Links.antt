@@ -10,14 +10,14 @@ use Rattle.std.proofs.lemmas.List.{take_more}
 use Rattle.std.proofs.lemmas.List.Elements.{All-push, All-contains, All-weaker, Contains-push, Contains-append_left}
 use Rattle.rulebook_order.specs.Certified.{IsLinked}
 use Rattle.rulebook_order.specs.Graph.{Graph}
-use Rattle.rulebook_order.specs.VectorOrder.{Holds}
+use Rattle.rulebook_order.specs.VectorOrder.{Holds, IsVectorOrder}
 use Rattle.rulebook_order.proofs.Lists.{slice_get-append, slice_get-snoc, Contains-slice_get}
 use Rattle.label_search.specs.declared.arrival.Arrival.{Arrival}
 use Rattle.label_search.specs.declared.candidate.Candidate.{Candidate}
 use Rattle.label_search.specs.Candidates.{IsCovered}
-use Rattle.label_search.specs.Search.{IsCoveredAt, extension, extensions_below, extensions_from, pair_of}
+use Rattle.label_search.specs.Search.{ComeFromParents, IsCoveredAt, extension, extensions_below, extensions_from, pair_of}
 use Rattle.label_search.specs.Settling.{IsArrival, HasNumber}
-use Rattle.label_search.specs.Linking.{AreByState, IsCoveredBy}
+use Rattle.label_search.specs.Linking.{AreByState, IsCoveredBy, IsOwnLabel, IsTold}
 use Rattle.label_search.proofs.Groups.{at_each}
 use Rattle.label_search.proofs.Turns.{extensions_from-snoc}
 
@@ -46,6 +46,29 @@ module _ (no_worse : List ℕ → List ℕ → Bool) (links : List ℕ) (link : 
 
   pub linked-now : (candidates : List Candidate) (j : ℕ) (v : List ℕ) → j ≡ length links → (cover : IsCovered no_worse candidates v) → link ≡ cover.by.number → IsCoveredBy no_worse candidates (links ++ link ∷ []) j v
   linked-now candidates j v e cover is = record { cover = cover; number_is = ap (slice_get (links ++ link ∷ [])) e ∙ (slice_get-snoc links link ∙ ap Some is) }
+
+-- a label that is an arrival itself is among the candidates of its state, and no worse
+pub own_covers : {S : Type 0} (no_worse : List ℕ → List ℕ → Bool) (width : ℕ) → IsVectorOrder width no_worse → (labels : List (Arrival S)) (candidates : S → List Candidate) → AreByState labels candidates → (arrival : Arrival S) → length arrival.vector ≡ width → IsTold labels arrival → (number : ℕ) → IsOwnLabel labels number arrival → (cover : IsCovered no_worse (candidates arrival.state) arrival.vector) × (number ≡ cover.by.number)
+own_covers {S} no_worse width order labels candidates are arrival wide told number own =
+    let at : slice_get labels number ≡ Some arrival = own.label_is ∙ ap Some (told number own) in
+    let found = are.all number arrival at in
+    let a = All-contains (IsArrival labels arrival.state) (candidates arrival.state) found.candidate (are.from arrival.state) found.listed in
+    let e : a.arrival ≡ arrival = same_Some _ _ (sym a.arrival_is ∙ (ap (slice_get labels) found.number_is ∙ at)) in
+    let vector : arrival.vector ≡ found.candidate.vector = ap (λ (x : Arrival S). x.vector) (sym e) ∙ a.vector_is in (
+      record {
+        by = found.candidate;
+        listed = found.listed;
+        no_worse_is = subst (λ w. IsTrue (no_worse w arrival.vector)) vector (order.reflexive arrival.vector wide);
+      },
+      sym found.number_is,
+    )
+
+-- a label that comes from a label by a choice is what that leads to
+pub told_extensions : {S : Type 0} (g : Graph S) (labels : List (Arrival S)) → ComeFromParents g labels → (i : ℕ) (x : Arrival S) → slice_get labels i ≡ Some x → (c : ℕ) → IsTold labels (extension g i x c)
+told_extensions g labels parents i x at c number own =
+    let child = parents.later number own.label own.later own.label_is in
+    let parent : child.parent ≡ x = same_Some _ _ (sym child.parent_is ∙ (ap (slice_get labels) own.parent_is ∙ at)) in
+    child.arrival_is ∙ (ap (λ n. extension g n child.parent own.label.choice) own.parent_is ∙ (ap (λ p. extension g i p own.label.choice) parent ∙ ap (extension g i x) own.choice_is))
 
 -- a label that covers is among the candidates of its state
 pub covered_there : {S : Type 0} (no_worse : List ℕ → List ℕ → Bool) (arrivals : List (Arrival S)) (candidates : S → List Candidate) → AreByState arrivals candidates → (s : S) (v : List ℕ) → IsCoveredAt no_worse arrivals s v → IsCovered no_worse (candidates s) v
@@ -112,6 +135,13 @@ module _ {S : Type 0} (g : Graph S) where
         let snoc = extensions_from-snoc g 0 (take i arrivals) x in
         let parts = length-append (extensions_from g 0 (take i arrivals)) (extensions_below g (0 + length (take i arrivals)) x (g.choices x.state)) in
         omega (arith, next_is, ap (λ xs. length (extensions_from g 0 xs)) more, ap (length {A = Arrival S}) snoc, parts, length-extensions_below (0 + length (take i arrivals)) x (g.choices x.state))
+
+  -- so it is for all that the choices of a label lead to
+  pub told_own : (labels : List (Arrival S)) → ComeFromParents g labels → (i : ℕ) (x : Arrival S) → slice_get labels i ≡ Some x → (own : List (Arrival S)) → own ≡ extensions_below g i x (g.choices x.state) → All (IsTold labels) own
+  told_own labels parents i x at own own_is j d inside =
+      let below : j < g.choices x.state = omega (arith, inside, ap (length {A = Arrival S}) own_is, length-extensions_below i x (g.choices x.state)) in
+      let here : slice_get own j ≡ Some (extension g i x j) = ap (λ zs. slice_get zs j) own_is ∙ slice_get-extensions_below i x (g.choices x.state) j below in
+      subst (IsTold labels) (sym (get_or_from_slice_get own j (extension g i x j) d here)) (told_extensions g labels parents i x at j)
 
   -- the links to what its choices lead to are a label's links
   module _ (no_worse : List ℕ → List ℕ → Bool) (arrivals : List (Arrival S)) (candidates : S → List Candidate) (are : AreByState arrivals candidates) (i : ℕ) (x : Arrival S) (own : List (Arrival S)) (own_is : own ≡ extensions_below g i x (g.choices x.state)) (links : List ℕ) (count : length links ≡ length own) (covers : (j : ℕ) (y : Arrival S) → slice_get own j ≡ Some y → IsCoveredBy no_worse (candidates y.state) links j y.vector) where

@@ -1,6 +1,8 @@
 -- A new vector comes to candidates that stand apart.
-use Rattle.std.proofs.Common.{◌≡◌, ℕ, Bool, true, false, List, [], ◌∷◌, ◌++◌, length, get_or, inl, inr, ◌⊎◌}
+use Rattle.std.proofs.Common.{◌≡◌, ap, ℕ, Bool, true, false, List, [], ◌∷◌, ◌++◌, length, get_or, inl, inr, ◌⊎◌}
 use Rattle.std.specs.Prelude.{All, Contains, filter}
+use Rattle.std.proofs.lemmas.Option.{get_or_from_slice_get}
+use Rattle.rulebook_order.proofs.Lists.{Contains-from_slice_get}
 use Rattle.std.proofs.lemmas.Bool.{cases_Bool, both_ways, not-true, not_from_false}
 use Rattle.std.proofs.lemmas.List.Elements.{All-contains, Contains-push, Contains-push_cases, Contains-append_left, Contains-get_or}
 use Rattle.std.proofs.lemmas.List.Kept.{AllPairs-filter}
@@ -8,12 +10,16 @@ use Rattle.std.proofs.lemmas.List.Quantifiers.{all_pairs_push}
 use Rattle.rulebook_order.specs.NoWorse.{AreApart}
 use Rattle.rulebook_order.specs.VectorOrder.{Holds, IsVectorOrder}
 use Rattle.label_search.specs.declared.candidate.Candidate.{Candidate}
-use Rattle.label_search.specs.Candidates.{IsCovered, stays, StandApart, HaveWidth}
+use Rattle.label_search.specs.Candidates.{IsCoverAt, IsCovered, stays, StandApart, HaveWidth}
 use Rattle.label_search.proofs.Filters.{Contains-filter, Contains-from_filter, All-filter_true}
 
 -- no candidate covers the vector, if each is not no worse
 pub none_covers : (no_worse : List ℕ → List ℕ → Bool) (candidates : List Candidate) (v : List ℕ) → All (λ x. no_worse x.vector v ≡ false) candidates → IsCovered no_worse candidates v → ⊥
 none_covers no_worse candidates v none c = both_ways (no_worse c.by.vector v) (All-contains (λ x. no_worse x.vector v ≡ false) candidates c.by none c.listed) c.no_worse_is
+
+-- the number of the candidate at a place where it is no worse is that of a cover
+pub number_at : (no_worse : List ℕ → List ℕ → Bool) (candidates : List Candidate) (v : List ℕ) (place : ℕ) → IsCoverAt no_worse candidates v place → (d : Candidate) → (cover : IsCovered no_worse candidates v) × ((get_or candidates place d).number ≡ cover.by.number)
+number_at no_worse candidates v place at d = (record { by = at.by; listed = Contains-from_slice_get candidates place at.by at.by_is; no_worse_is = at.no_worse_is }, ap (λ (x : Candidate). x.number) (get_or_from_slice_get candidates place at.by d at.by_is))
 
 module _ (no_worse : List ℕ → List ℕ → Bool) (width : ℕ) (order : IsVectorOrder width no_worse) (candidates : List Candidate) (y : Candidate) (widths : HaveWidth width candidates) (wide : length y.vector ≡ width) where
   pub covered-new : IsCovered no_worse (filter (stays no_worse y.vector) candidates ++ y ∷ []) y.vector

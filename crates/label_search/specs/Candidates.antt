@@ -1,5 +1,6 @@
 -- Vectors that stand apart from one another, each with the number of what has it.
-use Rattle.std.specs.Prelude.{◌≡◌, ℕ, Bool, not, List, length, Contains, All, AllPairs, IsTrue}
+use Rattle.std.specs.Prelude.{◌≡◌, ℕ, Bool, not, List, Some, slice_get, length, Contains, All}
+use Rattle.std.specs.Prelude.{AllPairs, IsTrue}
 use Rattle.rulebook_order.specs.NoWorse.{AreApart}
 use Rattle.rulebook_order.specs.VectorOrder.{Holds}
 use Rattle.label_search.specs.declared.candidate.Candidate.{Candidate}
@@ -9,6 +10,13 @@ pub record IsCovered (no_worse : List ℕ → List ℕ → Bool) (candidates : L
     (vector : List ℕ) : Type 0 where
   pub by : Candidate
   pub listed : Contains candidates by
+  pub no_worse_is : IsTrue (no_worse by.vector vector)
+
+-- the candidate at the place is no worse than the vector
+pub record IsCoverAt (no_worse : List ℕ → List ℕ → Bool) (candidates : List Candidate)
+    (vector : List ℕ) (place : ℕ) : Type 0 where
+  pub by : Candidate
+  pub by_is : slice_get candidates place ≡ Some by
   pub no_worse_is : IsTrue (no_worse by.vector vector)
 
 -- whether a candidate stays beside a new vector, which is not no worse than it

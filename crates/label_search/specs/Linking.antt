@@ -1,5 +1,5 @@
 -- How labels are found that are no worse than what a choice or a goal has.
-use Rattle.std.specs.Prelude.{◌≡◌, ℕ, Bool, List, Some, slice_get, All, take, map, IsTrue}
+use Rattle.std.specs.Prelude.{◌≡◌, ℕ, ◌<◌, Bool, List, Some, slice_get, All, take, map, IsTrue}
 use Rattle.rulebook_order.specs.Certified.{goals_in}
 use Rattle.rulebook_order.specs.Graph.{Graph, finished}
 use Rattle.label_search.specs.declared.arrival.Arrival.{Arrival}
@@ -15,6 +15,20 @@ pub record AreByState {S : Type 0} (arrivals : List (Arrival S))
   pub from : (s : S) → All (IsArrival arrivals s) (candidates s)
   pub all : (k : ℕ) (x : Arrival S) → slice_get arrivals k ≡ Some x
       → HasNumber (candidates x.state) k
+
+-- the label with the number comes from the same label by the same choice as the arrival
+pub record IsOwnLabel {S : Type 0} (labels : List (Arrival S)) (number : ℕ)
+    (arrival : Arrival S) : Type 0 where
+  pub label : Arrival S
+  pub label_is : slice_get labels number ≡ Some label
+  pub later : 0 < number
+  pub parent_is : label.parent ≡ arrival.parent
+  pub choice_is : label.choice ≡ arrival.choice
+
+-- such a label is the arrival
+abbrev pub IsTold : {S : Type 0} → List (Arrival S) → Arrival S → Type 0
+IsTold labels arrival =
+    (number : ℕ) (own : IsOwnLabel labels number arrival) → own.label ≡ arrival
 
 -- number j of the list is that of a candidate that is no worse than the vector
 pub record IsCoveredBy (no_worse : List ℕ → List ℕ → Bool) (candidates : List Candidate)

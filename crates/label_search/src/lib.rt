@@ -14,6 +14,7 @@ mod index;
 mod label;
 mod laws;
 mod linking;
+mod own;
 mod searching;
 mod settling;
 mod tick_search;

@@ -6,16 +6,12 @@ use Rattle.outside_io.specs.Outside.{Files}
 use Rattle.preorder.specs.declared.order.Preorder.{Preorder}
 use Rattle.rulebook_order.specs.Answer.{AreUndominated, HasMoreUndominated}
 use Rattle.rulebook_order.specs.Graph.{Graph}
-use Rattle.rulebook_order.specs.NoWorseBy.{NoWorseBy, no_worse_by}
+use Rattle.rulebook_order.specs.NoWorseBy.{no_worse_by}
 use Rattle.rulebook_order.specs.VectorOrder.{Holds}
 use Rattle.label_search.specs.Found.{HaveParents, pairs_of as found_pairs}
 use Rattle.label_search.specs.declared.label.Found.{Found}
 use Rattle.certificate_text.specs.declared.TheConstants.{MAX_LABELS}
 use Rattle.certificate_text.specs.declared.certificate.Certificate.{Certificate}
-use Rattle.certificate_checker.specs.Failing.{Fails}
-use Rattle.certificate_checker.specs.GoodCertificate.{IsGood}
-use Rattle.certificate_checker.proofs.AgreeGood.{IsGood-agree}
-use Rattle.certificate_checker.proofs.OneFinding.{Fails-not_good}
 use Rattle.domination_proof.specs.Copies.{cert_of}
 use Rattle.domination_proof.proofs.Copied.{same_pairs}
 use Rattle.maneuver_lattice.specs.declared.state.LatticeState.{LatticeState}
@@ -63,14 +59,6 @@ module _ (files : SceneFiles) (order : Preorder) (is_order : IsOrderOf files.boo
         subst (HasUndominated files) (sym copied)
         (subst (AreUndominated (graph_of files) (NoWorseFor files)) (sym (same_pairs (graph_of files) found.labels parents))
         (all_agree (graph_of files) (Holds (no_worse_by order)) (NoWorseFor files) agree (found_pairs found.labels) are)))
-
-    abbrev NeverFrom : Graph LatticeState → Type 0
-    NeverFrom h = IsGood h (NoWorseBy order) (cert_of found) → (number label : ℕ) → Fails (graph_of files) (NoWorseFor files) certificate number label → ⊥
-
-    pub never_rejected : NeverFrom g
-    never_rejected = subst NeverFrom (sym same) (λ good.
-        Fails-not_good (graph_of files) (NoWorseFor files) certificate
-        (subst (IsGood (graph_of files) (NoWorseFor files)) (sym copied) ((IsGood-agree (graph_of files) (NoWorseBy order) (NoWorseFor files) is_order.words (cert_of found)).0 good)))
 
 -- there are too many labels
 pub many_stops : (files : SceneFiles) (end : Stop) → HasTooMany files → EndsAs ending.TooManyLabels (codes "too many labels\n") end → StopsTooMuch files end

@@ -111,8 +111,8 @@ fn checked<L: Ledger>(
     check(alloc, graph, order, certificate, &mut steps)
 }
 
-// The answers in ascending order, behind the words and the line of the rules' names.
-fn shown_text(
+/// The answers in ascending order, behind the words and the line of the rules' names.
+pub fn shown_text(
     alloc: Global,
     words: &[u8],
     files: &SceneFiles,

@@ -14,6 +14,7 @@ mod derivations;
 mod helping;
 mod inputs;
 mod laws;
+mod ordering;
 mod picking;
 mod planning;
 mod recordings;

@@ -5,11 +5,11 @@ ghost use Rattle.command_outcome.specs.Ends.{Serves, shelf};
 ghost use Rattle.rulebook_cli.specs.Pick.{IsPickText, kept_lines, pick_task};
 
 use crate::inputs::load_book_and_table;
+use crate::ordering::front_by;
 use command_outcome::Stop;
 use outside_io::Store;
 use preorder::{NoMemory, Row};
 use rule_language::Book;
-use rulebook_order::{PairOrder, front_of};
 use std::alloc::{AllocError, Global};
 use text_lines::push_row;
 
@@ -35,8 +35,8 @@ fn pick_text(alloc: Global, book: &Book, rows: &[Row]) -> Result<Vec<u8>, NoMemo
     requires rows { IsTable (length book.now.rules) rows.now }
     ensures { IfOk result (λ text. IsPickText book.now rows.now text.items) }
 {
-    let order = PairOrder::new(book.order());
-    let places = front_of(alloc, &order, rows)?;
+    let rules = book.order();
+    let places = front_by(alloc, &rules, rows)?;
     let text = kept_lines(alloc, rows, places.as_slice())?;
     Ok(text)
 }

@@ -4,7 +4,6 @@ ghost use Rattle.preorder.specs.Preorder.{rules_of};
 ghost use Rattle.rulebook_order.specs.Answer.{HasMoreUndominated};
 ghost use Rattle.rulebook_order.specs.Certified.{finished_vectors};
 ghost use Rattle.rulebook_order.specs.NoWorseBy.{no_worse_by};
-ghost use Rattle.rulebook_order.specs.PairOrder.{order_of};
 ghost use Rattle.rulebook_order.specs.VectorOrder.{Holds};
 ghost use Rattle.label_search.specs.Found.{pairs_of};
 ghost use Rattle.certificate_text.specs.declared.TheConstants.{MAX_LABELS};
@@ -21,14 +20,13 @@ ghost use Rattle.rulebook_cli.specs.Sample.{sample_text};
 ghost use Rattle.rulebook_cli.specs.Sampled.{IsPairReached};
 
 use crate::bound_scene::{BoundScene, Graph, bind_scene, graph_of, source_of};
-use crate::certificates::order_by;
-use crate::planning::searched;
+use crate::ordering::{rules_by, searched};
 use crate::scene_files::SceneFiles;
 use command_outcome::{Ending, Stop, end_as};
 use label_search::{Found, SearchFault};
 use maneuver_lattice::LatticeState;
-use preorder::{NoMemory, Violation};
-use rulebook_order::{PairOrder, finished};
+use preorder::{NoMemory, Preorder, Violation};
+use rulebook_order::finished;
 use sample_scene::{SampleScene, sample_scene};
 use std::alloc::{AllocError, Global};
 use std::marker::Brand;
@@ -125,22 +123,22 @@ fn sample_found(
     number: u32,
     scene: &BoundScene,
     graph: &Graph<'_>,
-    order: &PairOrder,
+    rules: &Preorder,
     found: &Found<LatticeState>,
 ) -> Result<Vec<u8>, NoMemory>
     requires scene { IsBoundScene scene.now }
     requires graph { IsGraphOf scene.now.files
         (scene_of graph.now.moves) graph.now.source.now graph.now.bound.now }
-    requires order { IsOrderOf scene.now.files.book (order_of order.now) }
+    requires order { IsOrderOf scene.now.files.book rules.now }
     requires shown { IsShown
         (graph_at (scene_of graph.now.moves) graph.now.source.now graph.now.bound.now)
-        (Holds (no_worse_by (order_of order.now))) found.now }
+        (Holds (no_worse_by rules.now)) found.now }
     requires few { ¬ HasMoreUndominated (graph_at
         (scene_of graph.now.moves) graph.now.source.now graph.now.bound.now)
-        (Holds (no_worse_by (order_of order.now))) MAX_LABELS }
+        (Holds (no_worse_by rules.now)) MAX_LABELS }
     ensures { IfOk result (λ text. IsSample number scene.now.files text.items) }
 {
-    let _ = order;
+    let _ = rules;
     let vectors = in_order(final_vectors(alloc, graph, found)?)?;
     let text = sample_lines(
         alloc,
@@ -159,9 +157,9 @@ fn sample_bound(alloc: Global, number: u32, scene: &BoundScene) -> Result<Vec<u8
 {
     let source = source_of(scene);
     let graph = graph_of(scene, &source);
-    let order = order_by(&scene.files.book);
-    match searched::<Brand>(alloc, Blank::new(1), &graph, &order) {
-        Ok(found) => Ok(sample_found(alloc, number, scene, &graph, &order, &found)?),
+    let rules = rules_by(&scene.files.book);
+    match searched::<Brand>(alloc, Blank::new(1), &graph, &rules) {
+        Ok(found) => Ok(sample_found(alloc, number, scene, &graph, &rules, &found)?),
         Err(SearchFault::TooManyLabels) => {
             Err(end_as(alloc, Ending::TooManyLabels, "too many labels\n"))
         }

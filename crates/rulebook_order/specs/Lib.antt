@@ -1,5 +1,6 @@
 pub mod Answer
 pub mod Certified
+pub mod ChainOrder
 pub mod Front
 pub mod Graph
 pub mod NoWorse
@@ -7,6 +8,9 @@ pub mod NoWorseBy
 pub mod NoWorseUnder
 pub mod PairOrder
 pub mod Pairs
+pub mod ParetoOrder
+pub mod RankOrder
+pub mod Shapes
 pub mod StepGraph
 pub mod Sums
 pub mod VectorOrder

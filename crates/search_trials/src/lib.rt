@@ -2,6 +2,8 @@
 #![tactic(auto)]
 
 pub mod fan;
+#[cfg(test)]
+mod graph_table_tests;
 pub mod last_first;
 pub mod place;
 #[cfg(test)]

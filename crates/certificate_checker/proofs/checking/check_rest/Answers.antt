@@ -24,8 +24,8 @@ check_finals-requires g c = record {
   ends = c.as_slice.ensures.value ∙ c.in_ok-ends.ensures {u = tt};
 }
 
-pub answers-requires : goal.answers-requires
-answers-requires g c =
+pub final_answers-requires : goal.final_answers-requires
+final_answers-requires g c =
     let graph = g.G.StepGraph.graph c.args.graph.now in
     let labels = c.args.cert.now.labels in
     let finals = c.args.cert.now.finals in

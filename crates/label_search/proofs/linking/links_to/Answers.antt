@@ -4,26 +4,29 @@ use Rattle.std.proofs.lemmas.Bool.{cases_order}
 use Rattle.std.proofs.lemmas.Option.{slice_get_read, slice_get_within, same_Some}
 use Rattle.label_search.specs.declared.arrival.Arrival.{Arrival}
 use Rattle.label_search.specs.Index.{items_at}
-use Rattle.label_search.specs.Linking.{IsCoveredBy}
+use Rattle.label_search.specs.Linking.{IsCoveredBy, IsTold}
 use Rattle.label_search.proofs.Links.{linked-still, linked-now}
 use Rattle.label_search.proofs.linking.links_to.Goals as goal
 
-pub loop-arrival-init : goal.loop-arrival-init
-loop-arrival-init g c = rw c.new-links.ensures (record { count = refl; covers = λ j x below. absurd (omega arith) })
+pub loop-place-init : goal.loop-place-init
+loop-place-init g c = rw c.new-links.ensures (record { count = refl; covers = λ j x below. absurd (omega arith) })
 
-pub loop-arrival-preserved : goal.loop-arrival-preserved
-loop-arrival-preserved g c =
+pub link_to-found-requires-clause-told : goal.link_to-found-requires-clause-told
+link_to-found-requires-clause-told g c = subst (IsTold c.args.labels.now) (sym c.index-arrivals-place.is) (c.requires.told c.loop-place.place c.index-arrivals-place.result c.loop-place-test.true)
+
+pub loop-place-preserved : goal.loop-place-preserved
+loop-place-preserved g c =
     let no_worse = g.O.VectorOrder.no_worse c.args.order.now in
     let candidates = items_at g.G.State.PartialEq.eq c.args.index.now in
     let arrivals = c.args.arrivals.now in
-    let i = c.loop-arrival.arrival-index in
-    let item = c.arrival-item.result in
-    let links = c.loop-arrival.links in
-    let link = c.cover_of-link.result in
-    let was = c.loop-arrival.invariant in
+    let i = c.loop-place.place in
+    let item = c.index-arrivals-place.result in
+    let links = c.loop-place.links in
+    let link = c.link_to-found.result.0 in
+    let was = c.loop-place.invariant in
     let pushed = (c.in_ok-push.ensures {u = tt}).ok in
-    let at = slice_get_read arrivals (length arrivals) i item refl c.loop-arrival-test.true c.arrival-item.is in
-    let found = rw (c.items_of.ensures, c.as_slice.ensures.value) at c.cover_of-link.ensures in
+    let at = slice_get_read arrivals (length arrivals) i item refl c.loop-place-test.true c.index-arrivals-place.is in
+    let found = c.link_to-found.ensures in
     rw pushed (record {
       count = omega (arith, length-append links (link ∷ []), was.count);
       covers = λ j x below x_at. elim (cases_order j i) [
@@ -36,5 +39,5 @@ loop-arrival-preserved g c =
 
 pub returns : goal.returns
 returns g c =
-    let was = c.loop-arrival.invariant in
+    let was = c.loop-place.invariant in
     record { count = omega (arith, was.count); covers = λ j x at. was.covers j x (let h = slice_get_within c.args.arrivals.now j x at in omega arith) at }

@@ -14,7 +14,7 @@ use Rattle.label_search.specs.Linking.{arrival_of}
 use Rattle.label_search.specs.Search.{IsCoveredAt, extensions_below, extensions_from, pair_of}
 use Rattle.label_search.specs.declared.arrival.Arrival.{Arrival}
 use Rattle.label_search.proofs.Groups.{widths_at}
-use Rattle.label_search.proofs.Links.{own_fit, own_slice, next_more, count_links, links_are, numbers_fit, covered_there}
+use Rattle.label_search.proofs.Links.{own_fit, own_slice, next_more, count_links, links_are, numbers_fit, covered_there, told_own}
 use Rattle.label_search.proofs.Turns.{reached_extensions}
 use Rattle.label_search.proofs.linking.with_links.Goals as goal
 
@@ -53,6 +53,38 @@ slice_bounds-links_to-end g c =
     let at = slice_get_read arrivals (length arrivals) c.loop-arrival.arrival-index x refl c.loop-arrival-test.true c.arrival-item.is in
     let fit : c.loop-arrival.next + c.choices.result ≤ length c.args.extensions.now = rw c.choices.ensures (own_fit graph arrivals c.args.extensions.now c.requires.extensions c.loop-arrival.arrival-index x at c.loop-arrival.next c.loop-arrival.invariant.next) in
     search rules
+
+pub slice_bounds-reached-end : goal.slice_bounds-reached-end
+slice_bounds-reached-end g c =
+    let graph = g.G.StepGraph.graph c.args.graph.now in
+    let arrivals = c.args.arrivals.now in
+    let x = c.arrival-item.result in
+    let at = slice_get_read arrivals (length arrivals) c.loop-arrival.arrival-index x refl c.loop-arrival-test.true c.arrival-item.is in
+    let fit : c.loop-arrival.next + c.choices.result ≤ length c.args.extensions.now = rw c.choices.ensures (own_fit graph arrivals c.args.extensions.now c.requires.extensions c.loop-arrival.arrival-index x at c.loop-arrival.next c.loop-arrival.invariant.next) in
+    search rules
+
+pub offset_bounds-deref-next : goal.offset_bounds-deref-next
+offset_bounds-deref-next g c =
+    let graph = g.G.StepGraph.graph c.args.graph.now in
+    let arrivals = c.args.arrivals.now in
+    let x = c.arrival-item.result in
+    let at = slice_get_read arrivals (length arrivals) c.loop-arrival.arrival-index x refl c.loop-arrival-test.true c.arrival-item.is in
+    let fit : c.loop-arrival.next + c.choices.result ≤ length c.args.extensions.now = rw c.choices.ensures (own_fit graph arrivals c.args.extensions.now c.requires.extensions c.loop-arrival.arrival-index x at c.loop-arrival.next c.loop-arrival.invariant.next) in
+    let len : length c.in_ok-own.own.items ≡ length c.args.extensions.now = c.in_ok-own.ensures {u = tt} in
+    omega (arith, fit, len, c.deref.ensures.len)
+
+pub links_to-requires-clause-told : goal.links_to-requires-clause-told
+links_to-requires-clause-told g c =
+    let graph = g.G.StepGraph.graph c.args.graph.now in
+    let arrivals = c.args.arrivals.now in
+    let extensions = c.args.extensions.now in
+    let i = c.loop-arrival.arrival-index in
+    let x = c.arrival-item.result in
+    let next = c.loop-arrival.next in
+    let at = slice_get_read arrivals (length arrivals) i x refl c.loop-arrival-test.true c.arrival-item.is in
+    let own : List (Arrival g.row.G-State.Denot) = take (next + c.choices.result - next) (drop next extensions) in
+    let own_is : own ≡ extensions_below graph i x (graph.choices x.state) = rw c.choices.ensures (own_slice graph arrivals extensions c.requires.extensions i x at next c.loop-arrival.invariant.next) in
+    told_own graph arrivals c.requires.parents i x at own own_is
 
 pub links_to-requires-clause-index : goal.links_to-requires-clause-index
 links_to-requires-clause-index g c = λ s.

@@ -1,7 +1,6 @@
 use Rattle.std.proofs.Common.{length, ap, sym, subst, ◌∙◌}
 use Rattle.rulebook_order.specs.Answer.{IsAnswerList}
 use Rattle.rulebook_order.specs.NoWorseBy.{no_worse_by}
-use Rattle.rulebook_order.specs.PairOrder.{order_of}
 use Rattle.rulebook_order.specs.VectorOrder.{Holds}
 use Rattle.label_search.specs.Found.{pairs_of}
 use Rattle.violation_measures.specs.Scenes.{features_of}
@@ -16,7 +15,7 @@ use Rattle.rulebook_cli.proofs.sampling.sample_found.Goals as goal
 pub final_vectors-requires-clause-reached : goal.final_vectors-requires-clause-reached
 final_vectors-requires-clause-reached c =
     let g = c.args.graph.now in
-    reached (graph_at (scene_of g.moves) g.source.now g.bound.now) c.args.found.now.labels (Holds (no_worse_by (order_of c.args.order.now))) c.requires.shown.labels
+    reached (graph_at (scene_of g.moves) g.source.now g.bound.now) c.args.found.now.labels (Holds (no_worse_by c.args.rules.now)) c.requires.shown.labels
 
 pub final_vectors-requires-clause-finals : goal.final_vectors-requires-clause-finals
 final_vectors-requires-clause-finals c =
@@ -30,7 +29,7 @@ returns c =
     let g = c.args.graph.now in
     let is = c.requires.graph in
     let same = graph_same files (scene_of g.moves) (features_of (source_scene g.source.now)) g.bound.now is.scene_is is.features_are is.bound_is in
-    let order = order_of c.args.order.now in
+    let order = c.args.rules.now in
     let graph = graph_at (scene_of g.moves) g.source.now g.bound.now in
     let labels = c.args.found.now.labels in
     let sorted = c.in_ok-vectors.vectors.items in

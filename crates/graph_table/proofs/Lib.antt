@@ -1,0 +1,13 @@
+pub mod Added
+pub mod AlikeLaws
+pub mod AlikePairs
+pub mod Choices
+pub mod Inserted
+pub mod Made
+pub mod TableLaws
+pub mod Unbeaten
+pub mod VisitLaws
+pub mod Turned
+pub mod Visited
+pub mod Zeros
+pub mod Zips
