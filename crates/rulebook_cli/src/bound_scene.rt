@@ -140,6 +140,41 @@ fn test_start(alloc: Global, files: &SceneFiles, network: &Network) -> Result<()
     }
 }
 
+// The features of what surrounds the vehicle in these files.
+fn source_among<'a>(files: &SceneFiles, around: &'a Surroundings) -> SceneSource<'a>
+    requires files { AreSceneFiles files.now }
+    requires network { around.now.network ≡ lanes_of files.now.scenario }
+    requires traffic { IsTrafficOf files.now.scenario.obstacles around.now.traffic }
+    requires names { around.now.names ≡ maneuver_names files.now.lattice }
+    ensures { features_of (source_scene result) ≡ features files.now }
+{
+    SceneSource::new(
+        &around.network,
+        &around.traffic,
+        files.lattice.length,
+        files.lattice.width,
+        around.names.as_slice(),
+    )
+}
+
+// The book bound to the features of the scene, where it can be, and there is a start.
+fn bind_files(alloc: Global, files: &SceneFiles, around: &Surroundings) -> Result<Bound, Stop>
+    requires files { AreSceneFiles files.now }
+    requires network { around.now.network ≡ lanes_of files.now.scenario }
+    requires traffic { IsTrafficOf files.now.scenario.obstacles around.now.traffic }
+    requires names { around.now.names ≡ maneuver_names files.now.lattice }
+    ensures loads { (at : Shelf) → Loads (λ _. files.now) (bound_scene files.now) at at result }
+    ensures book { IfOk result (λ it. it ≡ bound files.now) }
+    ensures bound_to { IfOk result (IsBoundTo (features files.now)) }
+    ensures starts { IfOk result (λ _. IsSome (start_class files.now.lattice
+        (first_problem files.now.scenario).start.speed)) }
+{
+    let source = source_among(files, around);
+    let bound = test_binding(alloc, files, &source)?;
+    test_start(alloc, files, &around.network)?;
+    Ok(bound)
+}
+
 /// The book bound to the features of the scene, where it can be, and there is a start.
 pub fn bind_scene(alloc: Global, files: SceneFiles) -> Result<BoundScene, Stop>
     requires { AreSceneFiles files }
@@ -147,15 +182,7 @@ pub fn bind_scene(alloc: Global, files: SceneFiles) -> Result<BoundScene, Stop>
     ensures scene { IfOk result IsBoundScene }
 {
     let around = surroundings_of(alloc, &files)?;
-    let source = SceneSource::new(
-        &around.network,
-        &around.traffic,
-        files.lattice.length,
-        files.lattice.width,
-        around.names.as_slice(),
-    );
-    let bound = test_binding(alloc, &files, &source)?;
-    test_start(alloc, &files, &around.network)?;
+    let bound = bind_files(alloc, &files, &around)?;
     let Surroundings {
         network,
         traffic,
