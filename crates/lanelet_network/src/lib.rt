@@ -5,8 +5,10 @@
 //! directions along a bound in `specs/Bounds.antt`.
 #![tactic(auto)]
 
+mod axis;
 mod bound;
 mod fault;
+mod grid;
 mod lane;
 mod network;
 
