@@ -2,3 +2,4 @@ pub mod Same
 pub mod Leasts
 pub mod Rising
 pub mod Bounding
+pub mod Listing

@@ -4,3 +4,4 @@ pub mod Nearness
 pub mod Tracks
 pub mod Ticks
 pub mod Bounds
+pub mod Present

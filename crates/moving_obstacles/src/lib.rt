@@ -10,8 +10,10 @@ mod ahead;
 mod bounded_placement;
 mod indexed_track;
 mod limits;
+mod moment;
 mod nearness;
 mod placing;
+mod presence;
 mod track;
 mod traffic;
 
