@@ -3,3 +3,4 @@ pub mod Leasts
 pub mod Rising
 pub mod Bounding
 pub mod Listing
+pub mod Aside

@@ -5,3 +5,4 @@ pub mod Tracks
 pub mod Ticks
 pub mod Bounds
 pub mod Present
+pub mod Corridor
