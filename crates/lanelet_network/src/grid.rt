@@ -1,7 +1,6 @@
 ghost use Rattle.std.specs.Prelude.{◌≡◌, ◌≤◌, ◌<◌, length, map, IfOk};
 ghost use Rattle.std.specs.List.{range_with_len};
 ghost use Rattle.scenario_model.specs.declared.limits.TheConstants.{MAX_LANELETS};
-ghost use Rattle.lanelet_network.specs.declared.axis.TheConstants.{MAX_STRIPS};
 ghost use Rattle.lanelet_network.specs.Strips.{reaching as reaching_of, does_reach as is_reaching};
 ghost use Rattle.lanelet_network.specs.LaneReach.{reach_in_x, reach_in_y};
 ghost use Rattle.lanelet_network.specs.Cells.{cells_of, columns_of};

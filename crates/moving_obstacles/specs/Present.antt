@@ -1,5 +1,5 @@
 -- What is present at a tick, listed by itself: this project's own.
-use Rattle.std.specs.Prelude.{◌≡◌, ◌<◌, ℕ, List, [], length, map, All, Option, None, Some, IfSome}
+use Rattle.std.specs.Prelude.{◌≡◌, ◌<◌, ℕ, List, [], length, map, All, Option, Some, IfSome}
 use Rattle.std.specs.Prelude.{slice_get, slice_index_or, option_and_then}
 use Rattle.std.specs.List.{filter_map}
 use Rattle.fixed_geometry.specs.Boxes.{IsBoxInRange}

@@ -1,4 +1,4 @@
-ghost use Rattle.std.specs.Prelude.{◌≡◌, ◌≤◌, ◌≤ℤ◌, pos, All, length, IfOk, count_by};
+ghost use Rattle.std.specs.Prelude.{◌≡◌, ◌≤ℤ◌, pos, All, IfOk, count_by};
 ghost use Rattle.std.specs.List.{flat_map};
 ghost use Rattle.fixed_geometry.specs.Plane.{IsWithin};
 ghost use Rattle.fixed_geometry.specs.Boxes.{bounds as bounds_of, IsBoxInRange};

@@ -1,5 +1,4 @@
-use Rattle.std.proofs.Common.{rules, ◌≡◌, ◌∙◌, arith, inl, inr, pos, ◌+ℤ◌, ◌*ℤ◌, FitsSigned, w64, to_z-of_z}
-use mir.Syntax.{w128}
+use Rattle.std.proofs.Common.{◌≡◌, ◌∙◌, arith, inl, inr}
 use Rattle.std.proofs.lemmas.Int.{ints}
 use Rattle.fixed_geometry.specs.Vectors.{turn}
 use Rattle.moving_obstacles.proofs.Aside.{turned}

@@ -1,5 +1,4 @@
-use Rattle.std.proofs.Common.{rules, ◌≡◌, ◌∙◌, arith}
-use Rattle.std.specs.Prelude.{count_by}
+use Rattle.std.proofs.Common.{rules, ◌∙◌, arith}
 use Rattle.std.proofs.lemmas.List.Sums.{count_by-le-length}
 use Rattle.moving_obstacles.specs.declared.track.Track.{Track}
 use Rattle.moving_obstacles.specs.Nearness.{is_met}

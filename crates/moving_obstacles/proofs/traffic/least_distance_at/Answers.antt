@@ -1,4 +1,4 @@
-use Rattle.std.proofs.Common.{rules, ◌≡◌, ◌∙◌, ap, FitsSigned, w64, to_z-of_z}
+use Rattle.std.proofs.Common.{rules, ◌∙◌, ap, FitsSigned, w64, to_z-of_z}
 use Rattle.moving_obstacles.specs.Nearness.{least}
 use Rattle.moving_obstacles.specs.Present.{ArePresent}
 use Rattle.moving_obstacles.proofs.Listing.{distances_listed}

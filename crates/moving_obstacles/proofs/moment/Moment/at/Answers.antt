@@ -1,4 +1,4 @@
-use Rattle.std.proofs.Common.{◌≡◌, ◌∙◌, ◌+◌, ◌<◌, sym, subst, length, List, arith}
+use Rattle.std.proofs.Common.{◌∙◌, ◌+◌, ◌<◌, sym, subst, length, List, arith}
 use Rattle.moving_obstacles.specs.declared.presence.Presence.{Presence}
 use Rattle.moving_obstacles.proofs.Listing.{AreListed, none_listed, absent_kept, present_more}
 use Rattle.moving_obstacles.proofs.moment.Moment.at.Goals as goal

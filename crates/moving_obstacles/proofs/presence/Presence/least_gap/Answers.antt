@@ -1,4 +1,4 @@
-use Rattle.std.proofs.Common.{rules, arith, ◌≡◌, ap, subst, ℤ, ◌≤ℤ◌, FitsSigned, w64, to_z-of_z}
+use Rattle.std.proofs.Common.{rules, arith, ◌≡◌, subst, ℤ, ◌≤ℤ◌, FitsSigned, w64, to_z-of_z}
 use Rattle.std.specs.Prelude.{int_le, true}
 use Rattle.std.proofs.lemmas.Int.{ints}
 use Rattle.moving_obstacles.proofs.Listing.{least_stays}

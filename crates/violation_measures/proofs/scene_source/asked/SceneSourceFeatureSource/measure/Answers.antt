@@ -1,4 +1,4 @@
-use Rattle.std.proofs.Common.{rules, ◌≡◌, ◌∙◌, ◌<◌, ◌≤◌, length, arith, FitsSigned, w64, to_z-of_z}
+use Rattle.std.proofs.Common.{rules, ◌∙◌, ◌<◌, ◌≤◌, length, arith, FitsSigned, w64, to_z-of_z}
 use Rattle.std.proofs.lemmas.List.{length-set}
 use Rattle.violation_measures.specs.Scenes.{numbered, value_in}
 use Rattle.violation_measures.specs.SceneSources.{scene_of}
