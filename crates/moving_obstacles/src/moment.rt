@@ -10,7 +10,7 @@ ghost use Rattle.moving_obstacles.specs.Tracks.{occupancy_in};
 
 use crate::ahead;
 use crate::indexed_track::IndexedTrack;
-use crate::limits::{MAX_DISTANCE, MAX_MOMENTS};
+use crate::limits::{MAX_DISTANCE, MAX_MOMENTS, MIN_MOMENTS};
 use crate::presence::Presence;
 use fixed_geometry::{Box2, Point};
 use preorder::{List, NoMemory};
@@ -53,13 +53,14 @@ impl Moment {
     }
 }
 
-// How many of the first ticks are worth a list of what is present.
+// How many of the first ticks have a list of what is present. A later tick has the same answers,
+// found among all tracks.
 fn count_of_moments(tracks: &[IndexedTrack]) -> u32 {
     let mut last = 0;
     for track in tracks {
         last = track.last_tick().max(last);
     }
-    last.min(MAX_MOMENTS - 1) + 1
+    last.clamp(MIN_MOMENTS - 1, MAX_MOMENTS - 1) + 1
 }
 
 // What is present at each of the first ticks.

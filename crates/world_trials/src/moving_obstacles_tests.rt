@@ -103,9 +103,11 @@ fn a_standing_car_is_ahead_met_behind_or_beside(rt: HostRuntime) -> Result<(), F
     ] {
         let traffic = standing(rt.alloc(), car(), pose(0, at(100_000, y), 0))?;
         let ego = rectangle_at(at(x, 0), 0, 45_000, 18_000);
-        assert_eq!(rt; traffic.meeting(&ego, 0), met);
-        assert_eq!(rt; traffic.nearest_gap(bounds(&ego), 0), gap);
-        assert_eq!(rt; traffic.headway(at(x, 0), 0, 18_000, 0), ahead);
+        for tick in [0, 255, 256] {
+            assert_eq!(rt; traffic.meeting(&ego, tick), met);
+            assert_eq!(rt; traffic.nearest_gap(bounds(&ego), tick), gap);
+            assert_eq!(rt; traffic.headway(at(x, 0), 0, 18_000, tick), ahead);
+        }
     }
     Ok(())
 }
