@@ -11,7 +11,7 @@ use Rattle.scenario_model.specs.Scenario.{IsKnown, HaveDifferentIds}
 use Rattle.scenario_model.specs.declared.lanelet.Lanelet.{Lanelet}
 use Rattle.lanelet_network.specs.Lanes.{Lane, lane_of, lane_ids, has_id, HaveOwnIds, IsOfLanelet}
 
-abbrev nowhere : Lane
+abbrev pub nowhere : Lane
 nowhere = record { id = 0; left = []; corners = []; successors = [] }
 
 has_the_id : (lane : Lane) (id : ℕ) → has_id id lane ≡ true → lane.id ≡ id

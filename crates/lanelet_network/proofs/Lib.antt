@@ -1,2 +1,5 @@
 pub mod Ids
 pub mod Nearest
+pub mod Boxed
+pub mod Ranges
+pub mod Asked

@@ -61,7 +61,7 @@ is_less read distance least e t = omega (arith, ints, e, t)
 pub is_no_less : (read distance least : ℤ) → read ≡ distance → int_lt read least ≡ false → least ≤ℤ distance
 is_no_less read distance least e t = omega (arith, ints, e, t)
 
-test_passes : (a b : ℤ) → a ≤ℤ b → int_le a b ≡ true
+pub test_passes : (a b : ℤ) → a ≤ℤ b → int_le a b ≡ true
 test_passes a b h =
     elim (cases_Bool (int_le a b)) [
       | inl passes ↦ passes

@@ -1,7 +1,7 @@
 -- CommonRoad's lanelets as a network keeps them. What a lanelet holds and where it leads is this
 -- project's own.
 use Rattle.std.specs.Prelude.{◌≡◌, ℕ, Bool, not, ◌&&◌, ◌||◌, ◌==◌, ℤ, pos, int_lt, List, ◌++◌}
-use Rattle.std.specs.Prelude.{map, reverse, count_by, slice_get, false, All}
+use Rattle.std.specs.Prelude.{map, reverse, count_by, slice_get, false, true, All}
 use Rattle.std.specs.List.{list_all, list_any}
 use Rattle.std.specs.Option.{option_map_or}
 use Rattle.fixed_geometry.specs.declared.point.Point.{Point}
@@ -82,6 +82,11 @@ opposes p ahead lane = int_lt (dot (direction_at lane p) ahead) (pos 0)
 -- if the lanelet holds the point, it opposes the direction there
 unfoldable pub opposes_if_holding : Point → Point → Lane → Bool
 opposes_if_holding p ahead lane = not (holds p lane) || opposes p ahead lane
+
+-- the lanelet at the index, if there is one, opposes the direction at the point if it holds it
+unfoldable pub opposes_at : List Lane → Point → Point → ℕ → Bool
+opposes_at lanes p ahead index =
+    option_map_or (opposes_if_holding p ahead) (slice_get lanes index) true
 
 -- some lanelet holds the point, and each that does opposes the heading there
 unfoldable pub is_against : List Lane → Point → ℤ → Bool

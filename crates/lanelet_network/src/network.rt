@@ -1,5 +1,5 @@
 ghost use Rattle.std.specs.Prelude.{◌≡◌, ◌<◌, ◌≤◌, ◌*◌, length, slice_index, unsigned_abs};
-ghost use Rattle.std.specs.Prelude.{IfOk, IfErr, Some, None};
+ghost use Rattle.std.specs.Prelude.{IfOk, IfErr, Some, None, count_by};
 ghost use Rattle.std.specs.List.{position, list_any, list_all};
 ghost use Rattle.fixed_geometry.specs.Plane.{IsInRange, IsWithin};
 ghost use Rattle.scenario_model.specs.Scenario.{IsScenario, lanelet_ids};
@@ -11,8 +11,11 @@ ghost use Rattle.lanelet_network.specs.Lanes.{IsUnknown, IsOfLanelet, holds as d
 ghost use Rattle.lanelet_network.specs.Lanes.{holds_at as does_hold_at, count_at as count_of};
 ghost use Rattle.lanelet_network.specs.Lanes.{direction_at as direction_of};
 ghost use Rattle.lanelet_network.specs.Lanes.{opposes_if_holding as does_oppose_if_holding};
+ghost use Rattle.lanelet_network.specs.Lanes.{opposes_at as does_oppose_at};
+ghost use Rattle.lanelet_network.specs.Cells.{AreAsked};
 
 use crate::fault::NetworkFault;
+use crate::grid::Grid;
 use crate::lane::Lane;
 use fixed_geometry::{Point, direction};
 use scenario_model::Scenario;
@@ -26,19 +29,22 @@ use std::marker::Model;
 #[derive(Drop)]
 pub struct Network {
     lanes: Vec<Lane>,
+    grid: Grid,
 }
 
 impl Model for Network {
     ghost use Rattle.std.specs.Prelude.{◌≤◌, List, length};
     ghost use Rattle.scenario_model.specs.declared.limits.TheConstants.{MAX_LANELETS};
     ghost use Rattle.lanelet_network.specs.Lanes.{Lane as Shown, HaveOwnIds};
+    ghost use Rattle.lanelet_network.specs.Cells.{IsGridOf};
 
     ghost Value = { List Shown };
 
     ghost view = { λ n. n.lanes.items };
 
     ghost invariant = { λ n. (length n.lanes.items ≤ MAX_LANELETS)
-        × HaveOwnIds n.lanes.items };
+        × HaveOwnIds n.lanes.items
+        × IsGridOf n.lanes.items n.grid };
 }
 
 impl Network {
@@ -53,7 +59,8 @@ impl Network {
         for lanelet in scenario.lanelets.as_slice() {
             lanes.push(Lane::new(alloc, lanelet)?)?;
         }
-        Ok(Network { lanes })
+        let grid = Grid::new(alloc, lanes.as_slice())?;
+        Ok(Network { lanes, grid })
     }
 
     /// The number of lanelets, at most `MAX_LANELETS`.
@@ -170,12 +177,53 @@ impl Network {
         }
     }
 
+    // The places of the lanelets that may hold the point: no other does.
+    fn asked(&self, point: Point) -> &[u32]
+        ensures places { AreAsked self.now point result.now }
+        ensures few { length self.now ≤ MAX_LANELETS }
+    {
+        self.grid.places_at(point)
+    }
+
+    // Whether a lanelet at one of the places holds the point.
+    fn is_held_at_any(&self, places: &[u32], point: Point) -> bool
+        requires { IsInRange point }
+        ensures { result ≡ list_any (λ place. does_hold_at self.now place point) places.now }
+    {
+        places.iter().any(|place| self.holds_at(*place, point))
+    }
+
     /// Whether some lanelet holds the point.
     pub fn is_held(&self, point: Point) -> bool
         requires { IsInRange point }
         ensures value { result ≡ list_any (does_hold point) self.now }
     {
-        self.lanes.iter().any(|lane| lane.holds(point))
+        self.is_held_at_any(self.asked(point), point)
+    }
+
+    // Whether the lanelet at the place, if it holds the point, leads more back than ahead there.
+    #[tactic(auto, unfolding(crate::specs::Lanes::opposes_at))]
+    fn opposes_at(&self, place: u32, point: Point, ahead: Point) -> bool
+        requires point { IsInRange point }
+        requires ahead { IsWithin MICROS_PER_UNIT ahead }
+        ensures { result ≡ does_oppose_at self.now point ahead place }
+    {
+        match self.lanes.get(place as usize) {
+            Some(lane) => lane.opposes_if_holding(point, ahead),
+            None => true,
+        }
+    }
+
+    // Whether each lanelet at the places that holds the point leads more back than ahead there.
+    fn oppose_at_all(&self, places: &[u32], point: Point, ahead: Point) -> bool
+        requires point { IsInRange point }
+        requires ahead { IsWithin MICROS_PER_UNIT ahead }
+        ensures { result ≡ list_all (λ place. does_oppose_at self.now point ahead place)
+            places.now }
+    {
+        places
+            .iter()
+            .all(|place| self.opposes_at(*place, point, ahead))
     }
 
     // Whether each lanelet that holds the point leads more back than ahead there.
@@ -184,9 +232,30 @@ impl Network {
         requires ahead { IsWithin MICROS_PER_UNIT ahead }
         ensures { result ≡ list_all (does_oppose_if_holding point ahead) self.now }
     {
-        self.lanes
-            .iter()
-            .all(|lane| lane.opposes_if_holding(point, ahead))
+        self.oppose_at_all(self.asked(point), point, ahead)
+    }
+
+    // At how many of the places a lanelet holds the point.
+    fn count_at_places(&self, places: &[u32], point: Point) -> usize
+        requires { IsInRange point }
+        ensures { result ≡ count_by (λ place. does_hold_at self.now place point) places.now }
+    {
+        let mut count = 0;
+        for place in places {
+            if self.holds_at(*place, point) {
+                count += 1;
+            }
+        }
+        count
+    }
+
+    // How many lanelets hold the point.
+    fn held_count(&self, point: Point) -> usize
+        requires { IsInRange point }
+        ensures value { result ≡ count_of self.now point }
+        ensures few { result ≤ MAX_LANELETS }
+    {
+        self.count_at_places(self.asked(point), point)
     }
 
     /// How many lanelets hold the point, at most `MAX_LANELETS`.
@@ -195,13 +264,7 @@ impl Network {
         ensures value { result ≡ count_of self.now point }
         ensures few { result ≤ MAX_LANELETS }
     {
-        let mut count = 0;
-        for lane in &self.lanes {
-            if lane.holds(point) {
-                count += 1;
-            }
-        }
-        count
+        self.held_count(point) as u32
     }
 
     /// Whether some lanelet holds the point, and in each that does the way ahead has a negative dot

@@ -19,10 +19,10 @@ use Rattle.moving_obstacles.specs.Occupancy.{pose_at, occupancy}
 use Rattle.moving_obstacles.specs.Nearness.{is_met, meeting, least, gaps, all_gaps, nearest_gap, distances, all_distances, headway}
 use Rattle.moving_obstacles.specs.Tracks.{placement_of, track_of, IsTrafficOf, placement_in, pose_in, shapes_in}
 
-bit : Bool → ℕ
+unfoldable pub bit : Bool → ℕ
 bit b = cond b 1 0
 
-count_by-cons : {X : Type 0} (p : X → Bool) (x : X) (xs : List X) → count_by p (x ∷ xs) ≡ bit (p x) + count_by p xs
+pub count_by-cons : {X : Type 0} (p : X → Bool) (x : X) (xs : List X) → count_by p (x ∷ xs) ≡ bit (p x) + count_by p xs
 unfolding bit
 count_by-cons p x xs = sum_by-cons (λ y. bit (p y)) x xs
 

@@ -4,3 +4,5 @@ pub mod Nearness
 pub mod Tracks
 pub mod Ticks
 pub mod Bounds
+pub mod Present
+pub mod Corridor

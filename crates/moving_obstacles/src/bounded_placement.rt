@@ -7,8 +7,10 @@ ghost use Rattle.fixed_geometry.specs.declared.limits.TheConstants.{MAX_PLANE_CO
 ghost use Rattle.fixed_geometry.specs.Polygon.{IsCornerList, polygons_meet as do_polygons_meet};
 ghost use Rattle.scenario_model.specs.Scenario.{IsShape, IsPose};
 ghost use Rattle.moving_obstacles.specs.Bounds.{IsBoxIn, AreBounds};
+ghost use Rattle.moving_obstacles.specs.Present.{IsPresenceOf};
 
 use crate::nearness::{least_gap, meets_any};
+use crate::presence::Presence;
 use crate::track::Placement;
 use fixed_geometry::{Box2, Point, Polygon, bounds, box_gap};
 use preorder::NoMemory;
@@ -124,6 +126,19 @@ impl BoundedPlacement {
         ensures { result ≡ self.now.pose.tick }
     {
         self.placement.pose.tick
+    }
+
+    // The placement as it is listed with those of the other tracks; its own is at the place.
+    pub(crate) fn presence(&self, place: usize) -> Presence
+        ensures place { result.place ≡ place }
+        ensures in_range { IsBoxInRange result.bounds }
+        ensures placement { IsPresenceOf self.now result }
+    {
+        Presence {
+            place,
+            bounds: self.bounds,
+            pose: self.placement.pose,
+        }
     }
 
     pub(crate) fn pose(&self) -> Pose

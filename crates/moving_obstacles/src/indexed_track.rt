@@ -106,12 +106,20 @@ impl IndexedTrack {
 
     // The first placement with the tick, or the only one where the obstacle stands.
     #[tactic(auto, unfolding(crate::specs::Tracks::placement_in))]
-    fn placement_at(&self, tick: u32) -> Option<&BoundedPlacement>
+    pub(crate) fn placement_at(&self, tick: u32) -> Option<&BoundedPlacement>
         ensures { option_copied result ≡ placement_in self.now tick }
     {
         match self.first_tick {
             Some(first) => placement_from(self.track.placements.as_slice(), first, tick),
             None => self.track.placement_at(tick),
+        }
+    }
+
+    // The tick of the last placement; 0 where there is none.
+    pub(crate) fn last_tick(&self) -> u32 {
+        match self.track.placements.as_slice().last() {
+            Some(placement) => placement.tick(),
+            None => 0,
         }
     }
 

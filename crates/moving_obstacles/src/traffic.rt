@@ -1,5 +1,5 @@
 ghost use Rattle.std.specs.Prelude.{◌≡◌, ◌<◌, ◌≤◌, ◌≤ℤ◌, pos, unsigned_abs, All, length, map};
-ghost use Rattle.std.specs.Prelude.{count_by, slice_get, option_and_then, IfOk};
+ghost use Rattle.std.specs.Prelude.{count_by, slice_get, option_and_then, IfOk, IfSome};
 ghost use Rattle.std.specs.List.{flat_map};
 ghost use Rattle.std.specs.Option.{option_copied};
 ghost use Rattle.fixed_geometry.specs.Plane.{IsWithin, IsInRange};
@@ -12,6 +12,7 @@ ghost use Rattle.moving_obstacles.specs.Occupancy.{occupancy};
 ghost use Rattle.moving_obstacles.specs.Nearness.{is_met, gaps, distances, least, IsLeast};
 ghost use Rattle.moving_obstacles.specs.Nearness.{meeting, all_gaps, nearest_gap};
 ghost use Rattle.moving_obstacles.specs.Nearness.{all_distances, headway};
+ghost use Rattle.moving_obstacles.specs.Present.{ArePresent};
 ghost use Rattle.moving_obstacles.specs.Tracks.{track_of, IsTrafficOf, ForObstacles, shapes_in};
 ghost use Rattle.moving_obstacles.specs.Tracks.{pose_in, occupancy_in, meeting_in};
 ghost use Rattle.moving_obstacles.specs.Tracks.{nearest_gap_in, headway_in};
@@ -19,6 +20,8 @@ ghost use Rattle.moving_obstacles.specs.Tracks.{nearest_gap_in, headway_in};
 use crate::ahead::least_distance;
 use crate::indexed_track::IndexedTrack;
 use crate::limits::MAX_DISTANCE;
+use crate::moment::{self, Moment, moments_of};
+use crate::presence::Presence;
 use fixed_geometry::{Box2, Point, Polygon, bounds, direction};
 use preorder::{List, NoMemory};
 use scenario_model::{Obstacle, Scenario};
@@ -76,6 +79,64 @@ fn least_distance_of_all(
     nearest
 }
 
+// How many of the obstacles meet the polygon at the tick, where what is present then may be listed.
+fn count_met_at(
+    tracks: &[IndexedTrack],
+    present: Option<&[Presence]>,
+    ego: &[Point],
+    ego_bounds: Box2,
+    tick: u32,
+) -> usize
+    requires present { IfSome present (λ p. ArePresent tracks.now tick p.now) }
+    requires ego { IsCornerList ego.now }
+    requires bounds { ego_bounds ≡ bounds_of ego.now }
+    requires in_range { IsBoxInRange ego_bounds }
+    ensures value { result ≡ count_by (λ t. is_met ego.now (shapes_in t tick)) tracks.now }
+    ensures most { result ≤ length tracks.now }
+{
+    match present {
+        Some(present) => moment::count_met(tracks, present, ego, ego_bounds, tick),
+        None => count_met(tracks, ego, ego_bounds, tick),
+    }
+}
+
+// The least gap to one of the obstacles at the tick, where what is present then may be listed.
+fn least_gap_at(tracks: &[IndexedTrack], present: Option<&[Presence]>, ego: Box2, tick: u32) -> i64
+    requires present { IfSome present (λ p. ArePresent tracks.now tick p.now) }
+    requires ego { IsBoxInRange ego }
+    ensures value { result ≡ least (flat_map (λ t. gaps ego (shapes_in t tick)) tracks.now) }
+    ensures low { pos 0 ≤ℤ result }
+    ensures high { result ≤ℤ MAX_DISTANCE }
+{
+    match present {
+        Some(present) => moment::least_gap(tracks, present, ego, tick),
+        None => least_gap_of_all(tracks, ego, tick),
+    }
+}
+
+// The least distance to one of the obstacles that are ahead at the tick, where what is present then
+// may be listed.
+fn least_distance_at(
+    tracks: &[IndexedTrack],
+    present: Option<&[Presence]>,
+    position: Point,
+    unit: Point,
+    width: i64,
+    tick: u32,
+) -> i64
+    requires present { IfSome present (λ p. ArePresent tracks.now tick p.now) }
+    requires unit { IsWithin MICROS_PER_UNIT unit }
+    ensures value { result
+        ≡ least (flat_map (λ t. distances position unit width (pose_in t tick)) tracks.now) }
+    ensures low { pos 0 ≤ℤ result }
+    ensures high { result ≤ℤ MAX_DISTANCE }
+{
+    match present {
+        Some(present) => moment::least_distance(present, position, unit, width),
+        None => least_distance_of_all(tracks, position, unit, width, tick),
+    }
+}
+
 // The obstacles with their shapes placed.
 fn tracks_of(alloc: Global, obstacles: &[Obstacle]) -> Result<List<IndexedTrack>, NoMemory>
     requires { All IsObstacle obstacles.now }
@@ -94,6 +155,8 @@ fn tracks_of(alloc: Global, obstacles: &[Obstacle]) -> Result<List<IndexedTrack>
 #[derive(Drop)]
 pub struct Traffic {
     tracks: List<IndexedTrack>,
+    // What is present at each of the first ticks.
+    moments: List<Moment>,
 }
 
 impl Model for Traffic {
@@ -105,7 +168,10 @@ impl Model for Traffic {
 
     ghost view = { λ traffic. traffic.tracks };
 
-    ghost invariant = { λ traffic. length traffic.tracks ≤ MAX_OBSTACLES };
+    ghost use Rattle.moving_obstacles.specs.Present.{AreMoments};
+
+    ghost invariant = { λ traffic. (length traffic.tracks ≤ MAX_OBSTACLES)
+        × AreMoments traffic.tracks traffic.moments };
 }
 
 impl Traffic {
@@ -117,7 +183,21 @@ impl Traffic {
         ensures len { IfOk result (λ traffic. length traffic ≡ length scenario.now.obstacles) }
     {
         let tracks = tracks_of(alloc, scenario.obstacles.as_slice())?;
-        Ok(Traffic { tracks })
+        let moments = moments_of(alloc, tracks.as_slice())?;
+        Ok(Traffic { tracks, moments })
+    }
+
+    // What is present at the tick, where that is listed.
+    fn present(&self, tick: u32) -> Option<&[Presence]>
+        ensures { IfSome result (λ present. ArePresent self.now tick present.now) }
+    {
+        let moments = self.moments.as_slice();
+        let place = tick as usize;
+        if place < moments.len() {
+            Some(moments[place].present())
+        } else {
+            None
+        }
     }
 
     /// The number of obstacles, those that stand among them: at most `MAX_OBSTACLES`.
@@ -156,7 +236,8 @@ impl Traffic {
             (λ obstacles. result ≡ meeting obstacles ego.now tick) }
         ensures most { result ≤ MAX_OBSTACLES }
     {
-        count_met(self.tracks.as_slice(), ego, bounds(ego), tick) as u32
+        let tracks = self.tracks.as_slice();
+        count_met_at(tracks, self.present(tick), ego, bounds(ego), tick) as u32
     }
 
     /// The least box gap to a shape of an obstacle at the tick, in 0.1 mm: 0 to `MAX_DISTANCE`, and
@@ -174,7 +255,7 @@ impl Traffic {
         ensures low { pos 0 ≤ℤ result }
         ensures high { result ≤ℤ MAX_DISTANCE }
     {
-        least_gap_of_all(self.tracks.as_slice(), ego, tick)
+        least_gap_at(self.tracks.as_slice(), self.present(tick), ego, tick)
     }
 
     /// How far ahead the next obstacle is at the tick, in 0.1 mm: at most `MAX_DISTANCE`, and
@@ -195,6 +276,7 @@ impl Traffic {
         ensures high { result ≤ℤ MAX_DISTANCE }
     {
         let unit = direction(heading);
-        least_distance_of_all(self.tracks.as_slice(), position, unit, width, tick)
+        let tracks = self.tracks.as_slice();
+        least_distance_at(tracks, self.present(tick), position, unit, width, tick)
     }
 }

@@ -13,3 +13,4 @@ pub mod FormulaLaws
 pub mod NotedLaws
 pub mod MeasuredLaws
 pub mod AmountLaws
+pub mod Filling

@@ -1,5 +1,5 @@
 -- What steps and ends add, and the sums of runs.
-use Rattle.std.proofs.Common.{◌≡◌, ℕ, ◌+◌, ◌-◌, take, ◌*◌, ◌≤◌, ◌<◌, ◌^◌, Bool, true, false, cond, ℤ, pos, negsuc, List, [], ◌∷◌, ◌++◌, map, length, get_or, refl, sym, ap, subst, ◌∙◌, zero-add, arith, Option, None, Some}
+use Rattle.std.proofs.Common.{◌≡◌, ℕ, ◌+◌, ◌-◌, take, ◌*◌, ◌≤◌, ◌<◌, Bool, true, false, cond, ℤ, pos, negsuc, List, [], ◌∷◌, ◌++◌, map, length, get_or, refl, sym, ap, subst, ◌∙◌, zero-add, arith, Option, None, Some}
 use Rattle.std.specs.Prelude.{All, replicate, slice_index, slice_set}
 use Rattle.std.specs.List.{sum_by, last_or}
 use Rattle.std.proofs.lemmas.List.{length-map, length-take, get_or-map, take_more}

@@ -16,7 +16,6 @@ use Rattle.moving_obstacles.specs.declared.track.Track.{Track}
 use Rattle.moving_obstacles.specs.Nearness.{is_met, gaps, along, side, is_ahead, distances, least}
 use Rattle.moving_obstacles.specs.Tracks.{shapes_in, pose_in, meeting_in, nearest_gap_in}
 use Rattle.moving_obstacles.specs.Tracks.{headway_in}
-use Rattle.lanelet_network.specs.Lanes.{Lane, count_at, holds}
 use Rattle.moving_obstacles.specs.declared.limits.TheConstants.{MAX_DISTANCE}
 
 -- no number is below 0

@@ -92,7 +92,8 @@ fn straight(alloc: Global) -> Result<Network, Fail>
     alone(alloc, 1, left, right)
 }
 
-// A lanelet that leads along x, and one that comes to meet it where x is 1,000.
+// A lanelet that leads along x, and one that comes from 3,000 to meet it where x is 1,000. There the
+// grid of two lanelets, which has three columns, has a cell's border too.
 fn two_that_meet(alloc: Global) -> Result<Network, Fail>
     ensures { IfOk result (λ network. length network ≡ 2) }
 {
@@ -112,8 +113,8 @@ fn two_that_meet(alloc: Global) -> Result<Network, Fail>
     })?;
     lanelets.push(Lanelet {
         id: 9,
-        left: bound(alloc, &[(2_000, -10), (1_000, -10)])?,
-        right: bound(alloc, &[(2_000, 10), (1_000, 10)])?,
+        left: bound(alloc, &[(3_000, -10), (1_000, -10)])?,
+        right: bound(alloc, &[(3_000, 10), (1_000, 10)])?,
         predecessors,
         successors: List::new(alloc),
         adjacent_left: None,
@@ -176,14 +177,21 @@ fn lanelets_have_places_successors_and_headings(rt: HostRuntime) -> Result<(), F
     assert_eq!(rt; network.id_at(1), 9);
     assert_eq!(rt; network.successors(4)?, [9].as_slice());
     assert_eq!(rt; network.successors(9)?.len(), 0);
-    for (x, count, back, ahead) in [
-        (500, 1, true, false),
-        (1_000, 2, false, false),
-        (1_500, 1, false, true),
+    for (x, y, count, back, ahead) in [
+        (500, 0, 1, true, false),
+        (999, 0, 1, true, false),
+        (1_000, 0, 2, false, false),
+        (1_000, 10, 2, false, false),
+        (1_000, 11, 0, false, false),
+        (1_001, 0, 1, false, true),
+        (2_000, 0, 1, false, true),
+        (3_000, -10, 1, false, true),
+        (3_001, -10, 0, false, false),
     ] {
-        assert_eq!(rt; network.count_at(at(x, 0)), count);
-        assert_eq!(rt; network.against(at(x, 0), HALF_TURN), back);
-        assert_eq!(rt; network.against(at(x, 0), 0), ahead);
+        assert_eq!(rt; network.count_at(at(x, y)), count);
+        assert_eq!(rt; network.is_held(at(x, y)), count > 0);
+        assert_eq!(rt; network.against(at(x, y), HALF_TURN), back);
+        assert_eq!(rt; network.against(at(x, y), 0), ahead);
     }
     Ok(())
 }

@@ -103,9 +103,11 @@ fn a_standing_car_is_ahead_met_behind_or_beside(rt: HostRuntime) -> Result<(), F
     ] {
         let traffic = standing(rt.alloc(), car(), pose(0, at(100_000, y), 0))?;
         let ego = rectangle_at(at(x, 0), 0, 45_000, 18_000);
-        assert_eq!(rt; traffic.meeting(&ego, 0), met);
-        assert_eq!(rt; traffic.nearest_gap(bounds(&ego), 0), gap);
-        assert_eq!(rt; traffic.headway(at(x, 0), 0, 18_000, 0), ahead);
+        for tick in [0, 255, 256] {
+            assert_eq!(rt; traffic.meeting(&ego, tick), met);
+            assert_eq!(rt; traffic.nearest_gap(bounds(&ego), tick), gap);
+            assert_eq!(rt; traffic.headway(at(x, 0), 0, 18_000, tick), ahead);
+        }
     }
     Ok(())
 }
@@ -123,13 +125,18 @@ fn an_empty_road_is_free(rt: HostRuntime) -> Result<(), Fail> {
 
 #[test]
 fn a_moving_car_is_at_the_first_of_its_states_with_the_tick(rt: HostRuntime) -> Result<(), Fail> {
-    for (from, to, last, tick, shapes, ahead) in [
-        (0, 100_000, 1, 0, Some(1), 10_000_000),
-        (0, 100_000, 1, 1, Some(1), 100_000),
-        (0, 100_000, 1, 2, None, 10_000_000),
-        (0, 100_000, 2, 1, None, 10_000_000),
-        (0, 100_000, 2, 2, Some(1), 100_000),
-        (100_000, 50_000, 0, 0, Some(1), 100_000),
+    let ego = rectangle_at(at(0, 0), 0, 45_000, 18_000);
+    for (from, to, last, tick, shapes, met, gap, ahead) in [
+        (0, 100_000, 1, 0, Some(1), 1, 0, 10_000_000),
+        (0, 100_000, 1, 1, Some(1), 0, 55_000, 100_000),
+        (0, 100_000, 1, 2, None, 0, 10_000_000, 10_000_000),
+        (0, 100_000, 2, 1, None, 0, 10_000_000, 10_000_000),
+        (0, 100_000, 2, 2, Some(1), 0, 55_000, 100_000),
+        (100_000, 50_000, 0, 0, Some(1), 0, 55_000, 100_000),
+        (0, 45_000, 1_023, 1_023, Some(1), 1, 0, 45_000),
+        (0, 45_000, 1_024, 1_024, Some(1), 1, 0, 45_000),
+        (0, 45_001, 1_024, 1_024, Some(1), 0, 1, 45_001),
+        (0, 45_000, 1_024, 1_023, None, 0, 10_000_000, 10_000_000),
     ] {
         let first = pose(0, at(from, 0), 0);
         let second = pose(last, at(to, 0), 0);
@@ -139,6 +146,8 @@ fn a_moving_car_is_at_the_first_of_its_states_with_the_tick(rt: HostRuntime) -> 
             traffic.occupancy(0, tick).map(|shapes| shapes.len()),
             shapes
         );
+        assert_eq!(rt; traffic.meeting(&ego, tick), met);
+        assert_eq!(rt; traffic.nearest_gap(bounds(&ego), tick), gap);
         assert_eq!(rt; traffic.headway(at(0, 0), 0, 18_000, tick), ahead);
     }
     Ok(())

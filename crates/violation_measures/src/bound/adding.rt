@@ -9,7 +9,6 @@ ghost use Rattle.violation_measures.specs.Vectors.{trajectory_vector};
 
 use super::Bound;
 use crate::amount::{MAX_AMOUNT, end_value, rule_value};
-use crate::measure::measure;
 use crate::source::FeatureSource;
 use crate::step::Step;
 use preorder::{NoMemory, Violation};
@@ -38,7 +37,7 @@ impl Bound {
         requires room { HasRoom MAX_AMOUNT out.old }
         ensures { out.new ≡ sums out.old (step_vector (S.features source.now) self.now step.now) }
     {
-        let values = measure(source, step, self.at_steps.as_slice());
+        let values = source.measure(step, self.at_steps.as_slice());
         let rules = self.rules.as_slice();
         for i in 0..rules.len() {
             let parts = rules[i].parts.as_slice();
@@ -59,7 +58,7 @@ impl Bound {
         ensures { out.new ≡ sums out.old (end_vector (S.features source.now) self.now step.now) }
     {
         let last = step.finish();
-        let values = measure(source, &last, self.at_end.as_slice());
+        let values = source.measure(&last, self.at_end.as_slice());
         let rules = self.rules.as_slice();
         for i in 0..rules.len() {
             let parts = rules[i].parts.as_slice();

@@ -1,4 +1,4 @@
-ghost use Rattle.std.specs.Prelude.{◌≡◌, ◌≤◌, not, count_by};
+ghost use Rattle.std.specs.Prelude.{◌≡◌, ◌≤◌, not, count_by, IfSome};
 ghost use Rattle.std.specs.List.{list_any, position};
 ghost use Rattle.std.specs.Option.{option_copied};
 ghost use Rattle.std.specs.Str.{bytes_eq};
@@ -17,6 +17,7 @@ use super::SceneSource;
 use crate::feature::Feature;
 use crate::source::FeatureSource;
 use crate::step::Step;
+use crate::used::MAX_MEASURED;
 use fixed_geometry::{Point, bounds, rectangle_at};
 use lanelet_network::Network;
 use preorder::Name;
@@ -152,6 +153,59 @@ impl SceneSource<'_> {
     }
 }
 
+// Whether the feature of the number is one of the ego polygon.
+fn is_about_ego(number: u32) -> bool {
+    matches!(
+        Feature::numbered(number),
+        Feature::Overlaps | Feature::OffRoad | Feature::Gap
+    )
+}
+
+impl SceneSource<'_> {
+    // The ego polygon, where one of the features is about it.
+    fn asked_ego(&self, step: &Step, used: &[u32]) -> Option<[Point; 4]>
+        requires { IsStep step.now }
+        ensures value { IfSome result (λ corners. corners ≡ ego (scene_of self.now) step.now) }
+        ensures corners { IfSome result IsCornerList }
+    {
+        if used.iter().any(|number| is_about_ego(*number)) {
+            Some(self.ego(step))
+        } else {
+            None
+        }
+    }
+
+    // The value at the step, by the ego polygon where it is at hand.
+    fn value_around(&self, feature: Feature, step: &Step, around: &Option<[Point; 4]>) -> i64
+        requires step { IsStep step.now }
+        requires value { IfSome around.now (λ corners. corners
+            ≡ ego (scene_of self.now) step.now) }
+        requires corners { IfSome around.now IsCornerList }
+        ensures { result ≡ value_in (scene_of self.now) feature step.now }
+    {
+        let Some(corners) = around else {
+            return self.value_of(feature, step);
+        };
+        match feature {
+            Feature::Overlaps => i64::from(self.traffic.meeting(corners, step.tick)),
+            Feature::OffRoad => off_road(self.network, corners) as i64,
+            Feature::Gap => self.traffic.nearest_gap(bounds(corners), step.tick),
+            _ => self.value_of(feature, step),
+        }
+    }
+
+    // The value at the step of the feature of the number, in the same way.
+    fn measured(&self, number: u32, step: &Step, around: &Option<[Point; 4]>) -> i64
+        requires step { IsStep step.now }
+        requires value { IfSome around.now (λ corners. corners
+            ≡ ego (scene_of self.now) step.now) }
+        requires corners { IfSome around.now IsCornerList }
+        ensures { result ≡ value_in (scene_of self.now) (numbered number) step.now }
+    {
+        self.value_around(Feature::numbered(number), step, around)
+    }
+}
+
 impl FeatureSource for SceneSource<'_> {
     ghost features = { λ source. features_of (scene_of source) };
 
@@ -168,6 +222,16 @@ impl FeatureSource for SceneSource<'_> {
 
     fn value(&self, feature: u32, step: &Step) -> i64 {
         self.value_of(Feature::numbered(feature), step)
+    }
+
+    // The ego polygon is made once for all features.
+    fn measure(&self, step: &Step, used: &[u32]) -> [i64; MAX_MEASURED] {
+        let around = self.asked_ego(step, used);
+        let mut values = [0; MAX_MEASURED];
+        for place in 0..used.len() {
+            values[place] = self.measured(used[place], step, &around);
+        }
+        values
     }
 
     ghost sound = { scene_sound };

@@ -1,4 +1,4 @@
-use Rattle.std.proofs.Common.{◌≡◌, ◌≤◌, ◌*◌, ◌^◌, take}
+use Rattle.std.proofs.Common.{◌≡◌, ◌≤◌, ◌*◌, take}
 use Rattle.violation_measures.specs.Measured.{measured_at}
 use Rattle.violation_measures.specs.Resolved.{step_amount}
 use Rattle.violation_measures.specs.Sources.{at_step}
