@@ -1,24 +1,13 @@
-//! The one call of the program, and the store and the sink that it is given, run in memory on whole
-//! files.
+//! The one call of the program, where a load, a save or a write fails, and the store and the sink
+//! that it is given.
 //!
-//! It has tests alone, over what these crates export.
+//! It has tests alone, over what these crates export. What a call prints of files that are read and
+//! taken is told by the rows of `rows/`, which the built program is run on.
 #![tactic(auto)]
 
 #[cfg(test)]
 mod command_outcome_tests;
 #[cfg(test)]
-mod derivation_tests;
-#[cfg(test)]
-mod judge_tests;
+mod failing_tests;
 #[cfg(test)]
 mod outside_io_tests;
-#[cfg(test)]
-mod pick_tests;
-#[cfg(test)]
-mod sample_tests;
-#[cfg(test)]
-mod scene_tests;
-#[cfg(test)]
-mod scenes;
-#[cfg(test)]
-mod show_tests;

@@ -1,2 +1,1 @@
-pub mod Lamps
-pub mod Driven
+pub mod Dials
