@@ -3,6 +3,8 @@
 import sys
 from pathlib import Path
 
+from city import LANE as CITY_LANE, city
+
 LANE = '<lanelet id="{id}"><leftBound><point><x>{a}</x><y>{left}</y></point><point><x>{b}</x><y>{left}</y></point></leftBound><rightBound><point><x>{a}</x><y>{right}</y></point><point><x>{b}</x><y>{right}</y></point></rightBound></lanelet>\n'
 
 
@@ -40,8 +42,8 @@ def many_choices(horizon):
     return one_lane(horizon), "rule a\npart a 1 overlaps\n", lattice(horizon, [("c", 10000)], step)
 
 
-def motorway(number, last=30, end=500):
-    """Three lanes up to an end, and forty cars up to a last tick, by a plain sequence of pseudo-random numbers."""
+def draws(number):
+    """A plain sequence of pseudo-random numbers."""
     state = number
 
     def draw():
@@ -49,17 +51,11 @@ def motorway(number, last=30, end=500):
         state = (1103515245 * state + 12345) % 2**31
         return state // 65536
 
-    inside = "".join(LANE.format(id=k, a=-50, b=end, left=4 * (k - 1) + 2, right=4 * (k - 1) - 2) for k in (1, 2, 3))
-    for car in range(40):
-        a, b, d = draw(), draw(), draw()
-        y, x, v = 4 * (a % 3), 10 + b % 400, 4 + d % 8
+    return draw
 
-        def pose(tick):
-            return f"<position><point><x>{x + v * tick / 5:.1f}</x><y>{y}</y></point></position><orientation><exact>0</exact></orientation><time><exact>{tick}</exact></time><velocity><exact>{v}</exact></velocity>"
 
-        states = "".join(f"<state>{pose(tick)}</state>" for tick in range(1, last + 1))
-        shape = "<shape><rectangle><length>4.5</length><width>1.8</width></rectangle></shape>"
-        inside += f'<dynamicObstacle id="{100 + car}">{shape}<initialState>{pose(0)}</initialState><trajectory>{states}</trajectory></dynamicObstacle>\n'
+def drivers():
+    """A book of five rules, and a lattice of three speeds and thirteen maneuvers of a second each."""
     classes = [("slow", 5000), ("mid", 10000), ("fast", 15000)]
     maneuvers = []
     for name, v in classes:
@@ -74,13 +70,36 @@ def motorway(number, last=30, end=500):
     book += "".join(f"part smooth 1 maneuver({name})\n" for name in changes) + "rule lane\n"
     book += "".join(f"part lane 1 maneuver({name})\n" for name in turns)
     book += "above collision road\nabove road gap\nabove gap smooth\nabove gap lane\n"
-    return document(0.2, inside, 4, 30), book, lattice(30, classes, maneuvers)
+    return book, lattice(30, classes, maneuvers)
+
+
+def motorway(number, last=30, end=500):
+    """Three lanes up to an end, and forty cars up to a last tick."""
+    draw = draws(number)
+    inside = "".join(LANE.format(id=k, a=-50, b=end, left=4 * (k - 1) + 2, right=4 * (k - 1) - 2) for k in (1, 2, 3))
+    for car in range(40):
+        a, b, d = draw(), draw(), draw()
+        y, x, v = 4 * (a % 3), 10 + b % 400, 4 + d % 8
+
+        def pose(tick):
+            return f"<position><point><x>{x + v * tick / 5:.1f}</x><y>{y}</y></point></position><orientation><exact>0</exact></orientation><time><exact>{tick}</exact></time><velocity><exact>{v}</exact></velocity>"
+
+        states = "".join(f"<state>{pose(tick)}</state>" for tick in range(1, last + 1))
+        shape = "<shape><rectangle><length>4.5</length><width>1.8</width></rectangle></shape>"
+        inside += f'<dynamicObstacle id="{100 + car}">{shape}<initialState>{pose(0)}</initialState><trajectory>{states}</trajectory></dynamicObstacle>\n'
+    return document(0.2, inside, 4, 30), *drivers()
+
+
+def streets(number):
+    """A city in which the vehicle drives along its second street."""
+    return document(0.2, city(draws(number), 30), 100 - CITY_LANE / 2, 30), *drivers()
 
 
 def scenes():
     yield "doubling", doubling(14), "two choices, 32,767 undominated pairs, 8,192 answers"
     yield "choices", many_choices(56), "32 choices, 49,533 undominated pairs, 1,585,024 links but for the last tick"
     yield "motorway", motorway(7), "a motorway with 40 cars and 13 maneuvers"
+    yield "city", streets(7), "a city of 512 lanelets, 100 cars, 40 walkers and 13 maneuvers"
 
 
 def write(folder, name, texts):
