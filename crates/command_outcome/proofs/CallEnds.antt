@@ -1,5 +1,5 @@
 -- What a command leaves, its reply and what became of its text make the end of a call.
-use Rattle.std.proofs.Common.{◌≡◌, ◌⊎◌, inl, inr, ℕ, ◌≤◌, List, Some, Result, Ok, Err, Vec, refl, sym, ap, subst, arith}
+use Rattle.std.proofs.Common.{◌≡◌, ◌⊎◌, inl, inr, ℕ, List, Some, Result, Ok, Err, Vec, refl, sym, ap, subst}
 use Rattle.std.specs.declared.alloc.Global.{Global}
 use Rattle.std.specs.Io.KnownBytes.{Appends}
 use Rattle.outside_io.specs.Outside.{Files, Rose, AppendsPrefix}
@@ -10,24 +10,22 @@ use Rattle.command_outcome.specs.declared.outcome.Status.{Status}
 use Rattle.command_outcome.specs.declared.outcome.Status.TheVariants as status
 use Rattle.command_outcome.specs.declared.outcome.Stop.{Stop}
 use Rattle.command_outcome.specs.declared.outcome.Stop.TheVariants as stop
-use Rattle.command_outcome.specs.Outcome.{IsDueStatus, status_of, unread_text, usage_text}
+use Rattle.command_outcome.specs.Outcome.{IsDueStatus, TellsNoFault, status_of, unread_text, usage_text}
 use Rattle.command_outcome.specs.Tasks.{Task, IsDueTo, usage}
-use Rattle.command_outcome.specs.Ends.{Shelf, Paper, Settled, SavesInVain, ReadsInVain, Serves, Says, Replies, Answers, Writes, Delivers, EndsDue, EndsUnread, EndsUnsaved, EndsCut, EndsUsage, IsComplete}
+use Rattle.command_outcome.specs.Ends.{Shelf, Paper, Stands, Settled, SavesInVain, ReadsInVain, Serves, reply_of, reply_status, reply_text, Answers, Writes, Delivers, EndsDue, EndsUnread, EndsUnsaved, EndsCut, EndsUsage, IsComplete, LeavesAll, NoneFailed}
 use Rattle.command_outcome.proofs.Options.{map_some, each_some}
 
 module _ (NoReading : Type 0) where
   -- words that have no reading
-  pub usage_answers : (old : Shelf) (s : Status) (text : List ℕ) → NoReading → Says status.Usage usage_text s text → Answers usage NoReading old old s text
-  usage_answers old s text none (inl said) =
-      subst (λ q. Answers usage NoReading old old q text) (sym said.0) (none, refl, said.1, subst (λ t. Settled usage old old status.Usage t) (sym said.1) settled)
+  pub usage_answers : (old : Shelf) → NoReading → Answers usage NoReading old old status.Usage usage_text
+  usage_answers old none = (none, refl, refl, settled)
     where
       settled : Settled usage old old status.Usage usage_text
       settled = record {
-        later = omega arith;
+        faults = refl;
         failed = refl;
         due = each_some old.held (λ files. (after : Files) × (old.held ≡ Some after) × IsDueTo usage files (record { status = status.Usage; text = usage_text; files = after })) (λ files told. (files, told, refl));
       }
-  usage_answers old s text none (inr short) = subst (λ q. Answers usage NoReading old old q text) (sym short) (λ _. refl, refl)
 
   module _ (task : Task) (old new : Shelf) (has : NoReading → ⊥) where
     ended : (e : Ending) (text : List ℕ) → Settled task old new (status_of e) text → Answers task NoReading old new (status_of e) text
@@ -35,28 +33,21 @@ module _ (NoReading : Type 0) where
     ended ending.Rejected text h = (has, h)
     ended ending.TooManyLabels text h = (has, h)
 
-    short_answers : (s : Status) (text : List ℕ) → s ≡ status.NoMemory → new.held ≡ old.held → Answers task NoReading old new s text
-    short_answers s text is held = subst (λ q. Answers task NoReading old new q text) (sym is) (λ none. absurd (has none), held)
-
-    -- a file that couldn't be read
-    unread : (role : Role) (s : Status) (text : List ℕ) → ReadsInVain task.inputs old new role → Says status.ReadFault (unread_text role) s text → Answers task NoReading old new s text
-    unread role s text vain (inl said) = subst (λ q. Answers task NoReading old new q text) (sym said.0) (has, role, vain, said.1)
-    unread role s text vain (inr short) = short_answers s text short vain.load.held
-
     -- words that are a command
-    pub answers : (end : Result (Vec ℕ Global) Stop) (s : Status) (text : List ℕ) → Serves task old new end → Replies end s text → Answers task NoReading old new s text
-    answers (Ok done) s text h r = subst (λ q. Answers task NoReading old new q text) (sym r.0) (has, subst (λ t. Settled task old new status.Done t) (sym r.1) h)
-    answers (Err stop.NoMemory) s text h r = short_answers s text r h.held
-    answers (Err (stop.Unread role)) s text h r = unread role s text h r
-    answers (Err (stop.Ended e end)) s text h r = subst (λ q. Answers task NoReading old new q text) (sym r.0) (ended e text (subst (λ t. Settled task old new (status_of e) t) (sym r.1) h))
-    answers (Err stop.Unsaved) s text h r = subst (λ q. Answers task NoReading old new q text) (sym r) (has, h)
+    pub answers : (end : Result (Vec ℕ Global) Stop) → Serves task old new end → Answers task NoReading old new (reply_status (reply_of end)) (reply_text (reply_of end))
+    answers (Ok done) h = (has, h)
+    answers (Err stop.NoMemory) h = (has, h)
+    answers (Err (stop.Unread role)) h = (has, role, h, refl)
+    answers (Err (stop.Ended e end)) h = ended e end.items h
+    answers (Err stop.Unsaved) h = (has, h)
 
 -- how a call ends
 pub record Ends (task : Task) (NoReading : Type 0) (old new : Shelf) (before after : Paper) (result : Status) : Type 0 where
   pub due : IsDueStatus result → EndsDue task old new result (Appends before.written after.written)
   pub read_fault : result ≡ status.ReadFault → EndsUnread task old new (Appends before.written after.written)
   pub write_fault : result ≡ status.WriteFault → EndsUnsaved task old new before after ⊎ EndsCut task old new before after
-  pub no_memory : result ≡ status.NoMemory → (new.held ≡ old.held) × (after.written ≡ before.written)
+  pub no_memory : result ≡ status.NoMemory → LeavesAll old new before after
+  pub no_fault : TellsNoFault result → NoneFailed old new before after
   pub complete : IsComplete task old new before after result
   pub usage : result ≡ status.Usage → NoReading
   pub bad_words : NoReading → EndsUsage old new before after result
@@ -75,15 +66,16 @@ module _ (task : Task) (NoReading : Type 0) (old new : Shelf) (before after : Pa
   due_text : (s : Status) (Written : List ℕ → Type 0) → Settled task old new s text → Written text → EndsDue task old new s Written
   due_text s Written settled w = (settled.failed, map_some old.held (λ files told h. (text, h.0, h.2, h.1, w)) settled.due)
 
-  written : (s : Status) → IsDueStatus s → Settled task old new s text → OfWords s → before.faults ≤ after.faults → Appends before.written after.written text → EndsSo s
-  written s is settled of_words later appended = record {
+  written : (s : Status) → IsDueStatus s → Settled task old new s text → OfWords s → after.faults ≡ before.faults → Appends before.written after.written text → EndsSo s
+  written s is settled of_words quiet appended = record {
     due = λ _. due_text s (Appends before.written after.written) settled appended;
     read_fault = λ e. absurd (subst IsDueStatus e is);
     write_fault = λ e. absurd (subst IsDueStatus e is);
     no_memory = λ e. absurd (subst IsDueStatus e is);
+    no_fault = λ _. record { store = settled.faults; failed = settled.failed; sink = quiet };
     complete = λ _ _. inr (is, map_some old.held (λ files told h. (text, h.0, h.2)) settled.due);
     usage = of_words.0;
-    bad_words = λ none. let words = of_words.1 none in (words.0, inr (inl (words.1, later, subst (Appends before.written after.written) words.2 appended)));
+    bad_words = λ none. let words = of_words.1 none in (words.0, inl (words.1, quiet, subst (Appends before.written after.written) words.2 appended));
   }
 
   cut : (s : Status) → IsDueStatus s → Settled task old new s text → OfWords s → Rose before.faults after.faults → AppendsPrefix before.written after.written text → EndsSo status.WriteFault
@@ -92,9 +84,10 @@ module _ (task : Task) (NoReading : Type 0) (old new : Shelf) (before after : Pa
     read_fault = λ e. cc;
     write_fault = λ _. inr (record { rose = rose; text = inl (s, is, due_text s (AppendsPrefix before.written after.written) settled front) });
     no_memory = λ e. cc;
+    no_fault = λ told. absurd told;
     complete = λ _ still. absurd (still rose);
     usage = λ e. cc;
-    bad_words = λ none. let words = of_words.1 none in (words.0, inr (inr (refl, rose, subst (AppendsPrefix before.written after.written) words.2 front)));
+    bad_words = λ none. let words = of_words.1 none in (words.0, inr (refl, rose, subst (AppendsPrefix before.written after.written) words.2 front));
   }
 
   due_ends : (s : Status) → IsDueStatus s → Settled task old new s text → OfWords s → Writes s text before after result → EndsSo result
@@ -107,6 +100,7 @@ module _ (task : Task) (NoReading : Type 0) (old new : Shelf) (before after : Pa
     read_fault = λ _. (role, vain, subst (Appends before.written after.written) is w.2);
     write_fault = λ e. cc;
     no_memory = λ e. cc;
+    no_fault = λ told. absurd told;
     complete = λ still _. absurd (still vain.load.rose);
     usage = λ e. cc;
     bad_words = λ none. absurd (has none);
@@ -116,6 +110,7 @@ module _ (task : Task) (NoReading : Type 0) (old new : Shelf) (before after : Pa
     read_fault = λ e. cc;
     write_fault = λ _. inr (record { rose = w.1; text = inr (role, vain, subst (AppendsPrefix before.written after.written) is w.2) });
     no_memory = λ e. cc;
+    no_fault = λ told. absurd told;
     complete = λ still _. absurd (still vain.load.rose);
     usage = λ e. cc;
     bad_words = λ none. absurd (has none);
@@ -127,20 +122,22 @@ module _ (task : Task) (NoReading : Type 0) (old new : Shelf) (before after : Pa
     read_fault = λ e. cc;
     write_fault = λ _. inl (vain, same);
     no_memory = λ e. cc;
+    no_fault = λ told. absurd told;
     complete = λ still _. absurd (still vain.rose);
     usage = λ e. cc;
     bad_words = λ none. absurd (has none);
   }
 
-  short_ends : (NoReading → new ≡ old) → new.held ≡ old.held → after ≡ before → EndsSo status.NoMemory
-  short_ends words held same = record {
+  short_ends : (NoReading → ⊥) → Stands old new → after ≡ before → EndsSo status.NoMemory
+  short_ends has stands same = record {
     due = λ never. absurd never;
     read_fault = λ e. cc;
     write_fault = λ e. cc;
-    no_memory = λ _. (held, ap (λ (p : Paper). p.written) same);
+    no_memory = λ _. record { held = stands.held; failed = stands.failed; written = ap (λ (p : Paper). p.written) same };
+    no_fault = λ _. record { store = stands.faults; failed = stands.failed; sink = ap (λ (p : Paper). p.faults) same };
     complete = λ _ _. inl refl;
     usage = λ e. cc;
-    bad_words = λ none. (words none, inl (refl, same));
+    bad_words = λ none. absurd (has none);
   }
 
   pub ends : (s : Status) → Answers task NoReading old new s text → Delivers s text before after result → EndsSo result

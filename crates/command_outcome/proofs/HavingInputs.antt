@@ -1,24 +1,24 @@
 -- How inputs are had one after the other.
 use Rattle.std.proofs.Common.{◌≡◌, inl, inr, ℕ, List, [], ◌∷◌, ◌++◌, Option, Result, Ok, Err, IfSome, refl, ◌∙◌, ap, subst, arith}
-use Rattle.outside_io.specs.Outside.{Files}
+use Rattle.outside_io.specs.Outside.{Files, Rose}
 use Rattle.command_outcome.specs.declared.outcome.Role.{Role}
 use Rattle.command_outcome.specs.declared.outcome.Stop.{Stop}
 use Rattle.command_outcome.specs.declared.outcome.Stop.TheVariants as stop
-use Rattle.command_outcome.specs.Inputs.{Halt, refusal, Inputs, and_then, gives, in_role, tested, Reaches, ◌>>=◌}
+use Rattle.command_outcome.specs.Inputs.{Halt, refusal, Inputs, and_then, given, gives, in_role, tested, Reaches, ◌>>=◌}
 use Rattle.command_outcome.specs.Ends.{Shelf, Stands, LoadFailed, LoadingStops, Has, TestStops}
 use Rattle.command_outcome.proofs.Options.{each_some, join_some, map_some}
 
 pub unchanged : (old : Shelf) → Stands old old
-unchanged old = record { held = refl; later = omega arith; failed = refl }
+unchanged old = record { held = refl; faults = refl; failed = refl }
 
 -- one step after the other
 pub along : (old mid new : Shelf) → Stands old mid → Stands mid new → Stands old new
-along old mid new a b = record { held = b.held ∙ a.held; later = omega (arith, a.later, b.later); failed = b.failed ∙ a.failed }
+along old mid new a b = record { held = b.held ∙ a.held; faults = b.faults ∙ a.faults; failed = b.failed ∙ a.failed }
 
 failed_after : (old mid new : Shelf) (name : List ℕ) → Stands old mid → LoadFailed mid new name → LoadFailed old new name
 failed_after old mid new name a b = record {
   held = b.held ∙ a.held;
-  rose = omega (arith, a.later, b.rose);
+  rose = subst (λ before. Rose before new.faults) a.faults b.rose;
   failed = b.failed ∙ ap (λ (l : List (List ℕ)). l ++ name ∷ []) a.failed;
 }
 
@@ -79,3 +79,7 @@ one_more {earlier = earlier} {f = f} {mid = mid} {new = new} {x = x} so_far had 
 -- an input that can't be had
 pub none_more : {A B : Type 0} {inputs : Inputs B} {earlier : Inputs A} {f : A → Inputs B} {old mid : Shelf} → SoFar inputs (earlier >>= f) old mid → (new : Shelf) (end : Stop) → LoadingStops earlier mid new end → LoadingStops inputs old new end
 none_more {earlier = earlier} {f = f} {mid = mid} so_far new end h = so_far.stops new end (stops_at_once earlier f mid new end h)
+
+-- inputs of which nothing is left to read
+pub has_given : {A : Type 0} (x : A) (at : Shelf) → Has (given x) at at x
+has_given x at = record { stands = unchanged at; gives = each_some at.held (λ files. gives (given x) files ≡ Ok x) (λ files held. refl) }

@@ -3,3 +3,4 @@ pub mod HavingInputs
 pub mod Serving
 pub mod CallEnds
 pub mod DueOutcomes
+pub mod Answering

@@ -1,7 +1,7 @@
 -- What is due to a command that has its inputs, or can't have them.
 use Rattle.std.proofs.Common.{◌≡◌, ℕ, List, Option, Some, Result, Ok, Err, IfSome, refl, sym, ◌∙◌, subst, arith}
 use Rattle.std.specs.FinMap.{insert}
-use Rattle.outside_io.specs.Outside.{Files, SavesPart}
+use Rattle.outside_io.specs.Outside.{Files, Rose, SavesPart}
 use Rattle.command_outcome.specs.declared.outcome.Ending.{Ending}
 use Rattle.command_outcome.specs.declared.outcome.Status.{Status}
 use Rattle.command_outcome.specs.declared.outcome.Status.TheVariants as status
@@ -26,7 +26,7 @@ module _ (task : Task) where
   stops old new stop.NoMemory h = h
   stops old new (stop.Unread role) h = h
   stops old new (stop.Ended e text) h = subst (λ q. Settled task old new (status_of q) text.items) (sym h.0) (record {
-    later = h.1.later;
+    faults = h.1.faults;
     failed = h.1.failed;
     due = map_some old.held (λ files told is. (files, h.1.held ∙ told, due_at files (Err (refusal text.items)) (outcome status.Refused text.items files) is refl)) h.2;
   })
@@ -36,7 +36,7 @@ module _ (task : Task) where
     -- the work is done, or ends otherwise, and the files stay
     pub made : (s : Status) (text : List ℕ) → ((files : Files) → task.Makes files x (outcome s text files)) → Settled task old mid s text
     made s text makes = record {
-      later = had.stands.later;
+      faults = had.stands.faults;
       failed = had.stands.failed;
       due = map_some old.held (λ files told is. (files, had.stands.held ∙ told, due_at files (Ok x) (outcome s text files) is (makes files))) had.gives;
     }
@@ -51,7 +51,7 @@ module _ (task : Task) where
       -- what is made is saved
       pub saved : Saved name bytes mid new → Settled task old new status.Done text
       saved h = record {
-        later = omega (arith, had.stands.later, h.later);
+        faults = h.faults ∙ had.stands.faults;
         failed = h.failed ∙ had.stands.failed;
         due = join_some old.held (λ files told is after. (insert files name bytes, after, due_at files (Ok x) (outcome status.Done text (insert files name bytes)) is (makes files))) had.gives
             (subst (λ (held : Option Files). IfSome held (λ files. new.held ≡ Some (insert files name bytes))) had.stands.held h.held);
@@ -64,7 +64,7 @@ module _ (task : Task) where
       saving_stops stop.Unsaved named h = record {
         name = name;
         saves = named;
-        rose = omega (arith, had.stands.later, h.rose);
+        rose = subst (λ before. Rose before new.faults) had.stands.faults h.rose;
         failed = h.failed ∙ had.stands.failed;
         due = join_some old.held (λ files told is part. (text, bytes, due_at files (Ok x) (outcome status.Done text (insert files name bytes)) is (makes files), part)) had.gives
             (subst (λ (held : Option Files). IfSome held (λ files. SavesPart files new.held name bytes)) had.stands.held h.held);

@@ -6,6 +6,8 @@ use Rattle.std.specs.declared.alloc.Global.{Global}
 use Rattle.std.specs.Io.KnownBytes.{Appends}
 use Rattle.outside_io.specs.declared.TheConstants.{MAX_FILE}
 use Rattle.outside_io.specs.Outside.{Files, Rose, AppendsPrefix, SavesPart}
+use Rattle.command_outcome.specs.declared.delivery.Reply.{Reply}
+use Rattle.command_outcome.specs.declared.delivery.Reply.TheVariants as reply
 use Rattle.command_outcome.specs.declared.outcome.Ending.TheVariants as ending
 use Rattle.command_outcome.specs.declared.outcome.Role.{Role}
 use Rattle.command_outcome.specs.declared.outcome.Status.{Status}
@@ -38,7 +40,7 @@ paper written faults sink = record { written = written sink; faults = faults sin
 -- nothing failed, and the files stand as they were
 pub record Stands (old new : Shelf) : Type 0 where
   pub held : new.held ≡ old.held
-  pub later : old.faults ≤ new.faults
+  pub faults : new.faults ≡ old.faults
   pub failed : new.failed ≡ old.failed
 
 -- the load of this name failed, and the files stand as they were
@@ -49,7 +51,7 @@ pub record LoadFailed (old new : Shelf) (name : List ℕ) : Type 0 where
 
 -- the name holds the bytes, and nothing else is changed
 pub record Saved (name bytes : List ℕ) (old new : Shelf) : Type 0 where
-  pub later : old.faults ≤ new.faults
+  pub faults : new.faults ≡ old.faults
   pub failed : new.failed ≡ old.failed
   pub held : IfSome old.held (λ files. new.held ≡ Some (insert files name bytes))
 
@@ -127,7 +129,7 @@ Saves name bytes old new (Err end) = SavingStops name bytes old new end
 
 -- the outcome with this status and text is due, and the files are as it says
 pub record Settled (task : Task) (old new : Shelf) (status : Status) (text : List ℕ) : Type 0 where
-  pub later : old.faults ≤ new.faults
+  pub faults : new.faults ≡ old.faults
   pub failed : new.failed ≡ old.failed
   pub due : IfSome old.held (λ files. (after : Files) × (new.held ≡ Some after)
       × IsDueTo task files (record { status = status; text = text; files = after }))
@@ -157,18 +159,28 @@ abbrev pub Serves : Task → Shelf → Shelf → Result (Vec ℕ Global) Stop �
 Serves task old new (Ok text) = Settled task old new status.Done text.items
 Serves task old new (Err end) = Stops task old new end
 
--- the status and its text, or want of memory
-abbrev pub Says : Status → List ℕ → Status → List ℕ → Type 0
-Says s text said_status said_text =
-    ((said_status ≡ s) × (said_text ≡ text)) ⊎ (said_status ≡ status.NoMemory)
+-- the reply that a command's end comes to
+abbrev pub reply_of : Result (Vec ℕ Global) Stop → Reply
+reply_of (Ok text) = reply.Done text
+reply_of (Err end) = reply.Stopped end
 
--- the status and the text that a command's end comes to
-abbrev pub Replies : Result (Vec ℕ Global) Stop → Status → List ℕ → Type 0
-Replies (Ok done) s text = (s ≡ status.Done) × (text ≡ done.items)
-Replies (Err (stop.Ended e end)) s text = (s ≡ status_of e) × (text ≡ end.items)
-Replies (Err (stop.Unread role)) s text = Says status.ReadFault (unread_text role) s text
-Replies (Err stop.Unsaved) s text = s ≡ status.WriteFault
-Replies (Err stop.NoMemory) s text = s ≡ status.NoMemory
+-- a reply's status
+abbrev pub reply_status : Reply → Status
+reply_status (reply.Done text) = status.Done
+reply_status (reply.Stopped (stop.Ended e text)) = status_of e
+reply_status (reply.Stopped (stop.Unread role)) = status.ReadFault
+reply_status (reply.Stopped stop.Unsaved) = status.WriteFault
+reply_status (reply.Stopped stop.NoMemory) = status.NoMemory
+reply_status reply.Usage = status.Usage
+
+-- a reply's text: none where memory ran out or a save failed
+abbrev pub reply_text : Reply → List ℕ
+reply_text (reply.Done text) = text.items
+reply_text (reply.Stopped (stop.Ended e text)) = text.items
+reply_text (reply.Stopped (stop.Unread role)) = unread_text role
+reply_text (reply.Stopped stop.Unsaved) = []
+reply_text (reply.Stopped stop.NoMemory) = []
+reply_text reply.Usage = usage_text
 
 -- what the words come to before anything is written; NoReading says that they have no reading
 abbrev pub Answers : Task → Type 0 → Shelf → Shelf → Status → List ℕ → Type 0
@@ -176,8 +188,7 @@ Answers task NoReading old new status.ReadFault text =
     (NoReading → ⊥) × (role : Role) × ReadsInVain task.inputs old new role
     × (text ≡ unread_text role)
 Answers task NoReading old new status.WriteFault text = (NoReading → ⊥) × SavesInVain task old new
-Answers task NoReading old new status.NoMemory text =
-    (NoReading → new ≡ old) × (new.held ≡ old.held)
+Answers task NoReading old new status.NoMemory text = (NoReading → ⊥) × Stands old new
 Answers task NoReading old new status.Usage text =
     NoReading × (new ≡ old) × (text ≡ usage_text) × Settled task old new status.Usage text
 Answers task NoReading old new s text = (NoReading → ⊥) × Settled task old new s text
@@ -185,7 +196,7 @@ Answers task NoReading old new s text = (NoReading → ⊥) × Settled task old 
 -- the text was written, or the sink failed on it
 abbrev pub Writes : Status → List ℕ → Paper → Paper → Status → Type 0
 Writes s text old new result =
-    ((result ≡ s) × (old.faults ≤ new.faults) × Appends old.written new.written text)
+    ((result ≡ s) × (new.faults ≡ old.faults) × Appends old.written new.written text)
     ⊎ ((result ≡ status.WriteFault) × Rose old.faults new.faults
     × AppendsPrefix old.written new.written text)
 
@@ -228,9 +239,19 @@ IsComplete task old new before after result =
     × IfSome old.held (λ files. (text : List ℕ) × (left : Files)
     × IsDueTo task files (record { status = result; text = text; files = left })))
 
--- the usage was written, or the sink failed on it and a front was written, or memory ran out and
--- nothing was; no file was touched
+-- no count of faults rose, and no name joined those whose load failed
+pub record NoneFailed (old new : Shelf) (before after : Paper) : Type 0 where
+  pub store : new.faults ≡ old.faults
+  pub failed : new.failed ≡ old.failed
+  pub sink : after.faults ≡ before.faults
+
+-- nothing was saved, no load failed, and nothing was written
+pub record LeavesAll (old new : Shelf) (before after : Paper) : Type 0 where
+  pub held : new.held ≡ old.held
+  pub failed : new.failed ≡ old.failed
+  pub written : after.written ≡ before.written
+
+-- the usage was written, or the sink failed on it and a front was written; no file was touched
 abbrev pub EndsUsage : Shelf → Shelf → Paper → Paper → Status → Type 0
 EndsUsage old new before after result =
-    (new ≡ old) × (((result ≡ status.NoMemory) × (after ≡ before))
-    ⊎ Writes status.Usage usage_text before after result)
+    (new ≡ old) × Writes status.Usage usage_text before after result

@@ -1,3 +1,4 @@
+pub mod FileWords
 pub mod Outcome
 pub mod Inputs
 pub mod Tasks

@@ -23,6 +23,23 @@ IsDueStatus status.WriteFault = ⊥
 IsDueStatus status.NoMemory = ⊥
 IsDueStatus s = ⊤
 
+-- the statuses of calls in which nothing failed
+abbrev pub TellsNoFault : Status → Type 0
+TellsNoFault status.ReadFault = ⊥
+TellsNoFault status.WriteFault = ⊥
+TellsNoFault s = ⊤
+
+-- the number that a program ends with
+abbrev pub exit_number : Status → ℕ
+exit_number status.Done = 0
+exit_number status.Refused = 1
+exit_number status.Usage = 2
+exit_number status.ReadFault = 3
+exit_number status.WriteFault = 4
+exit_number status.NoMemory = 5
+exit_number status.Rejected = 6
+exit_number status.TooManyLabels = 7
+
 -- the status of a command that ends before its work is done
 abbrev pub status_of : Ending → Status
 status_of ending.Refused = status.Refused

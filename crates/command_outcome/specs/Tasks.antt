@@ -38,6 +38,14 @@ KeepsFiles task files o =
     (o.files ≡ files) ⊎ ((o.status ≡ status.Done) × (name : List ℕ) × (bytes : List ℕ)
     × (task.saves ≡ Some name) × (o.files ≡ insert files name bytes))
 
+-- a command that reads nothing and prints this text, whatever the files
+abbrev pub Prints : List ℕ → Files → ⊤ → Outcome → Type 0
+Prints text before _ outcome =
+    outcome ≡ record { status = status.Done; text = text; files = before }
+
+abbrev pub print_task : List ℕ → Task
+print_task text = record { Input = ⊤; inputs = given tt; Makes = Prints text; saves = None }
+
 -- what words with no reading come to: they load nothing, and are told the usage
 abbrev pub usage : Task
 usage = record {
@@ -51,3 +59,8 @@ usage = record {
       };
   saves = None;
 }
+
+-- what words come to by their one reading
+abbrev pub task_by : {R : Type 0} → (R → Task) → Option R → Task
+task_by task_of None = usage
+task_by task_of (Some request) = task_of request

@@ -1,87 +1,67 @@
 ghost use Rattle.std.specs.Prelude.{◌≡◌};
-ghost use Rattle.command_outcome.specs.declared.outcome.Status.TheVariants as status;
-ghost use Rattle.command_outcome.specs.Outcome.{unread_text, usage_text};
-ghost use Rattle.command_outcome.specs.Ends.{Delivers, Replies, Says, paper};
+ghost use Rattle.command_outcome.specs.Ends.{Delivers, paper, reply_of, reply_status, reply_text};
 
 use crate::outcome::{Role, Status, Stop};
 use outside_io::Sink;
-use std::alloc::{AllocError, Global};
 
 /// What a call comes to, before anything is written.
 #[derive(Drop)]
-pub struct Reply {
-    /// How the call is to end.
-    pub status: Status,
-    /// What is to be written, whole.
-    pub text: Vec<u8>,
+pub enum Reply {
+    /// The command's work is done, and this is its text.
+    Done(Vec<u8>),
+    /// The command ended before its work was done.
+    Stopped(Stop),
+    /// The words have no reading.
+    Usage,
 }
 
 impl Reply {
-    // A reply with no text.
-    fn silent(alloc: Global, status: Status) -> Reply
-        ensures { result.status ≡ status }
-    {
-        Reply {
-            status,
-            text: Vec::new(alloc),
-        }
-    }
-
-    /// The line that says how the program is used, or want of memory.
-    pub fn usage(alloc: Global) -> Reply
-        ensures { Says status.Usage usage_text result.status result.text.items }
-    {
-        match b"usage: see --help\n".to_vec(alloc) {
-            Ok(text) => Reply {
-                status: Status::Usage,
-                text,
-            },
-            Err(AllocError) => Reply::silent(alloc, Status::NoMemory),
-        }
-    }
-
-    // The line that says that the file in this role couldn't be read, or want of memory.
-    fn unread(alloc: Global, role: Role) -> Reply
-        ensures { Says status.ReadFault (unread_text role) result.status result.text.items }
-    {
-        let name = role.text();
-        match format!(in alloc; "cannot read {name}\n") {
-            Ok(text) => Reply {
-                status: Status::ReadFault,
-                text: text.into_bytes(),
-            },
-            Err(AllocError) => Reply::silent(alloc, Status::NoMemory),
-        }
-    }
-
     /// What a command's end comes to.
-    pub fn to(alloc: Global, end: Result<Vec<u8>, Stop>) -> Reply
-        ensures { Replies end result.status result.text.items }
+    pub fn to(end: Result<Vec<u8>, Stop>) -> Reply
+        ensures { result ≡ reply_of end }
     {
         match end {
-            Ok(text) => Reply {
-                status: Status::Done,
-                text,
-            },
-            Err(Stop::Ended(ending, text)) => Reply {
-                status: ending.status(),
-                text,
-            },
-            Err(Stop::Unread(role)) => Reply::unread(alloc, role),
-            Err(Stop::Unsaved) => Reply::silent(alloc, Status::WriteFault),
-            Err(Stop::NoMemory) => Reply::silent(alloc, Status::NoMemory),
+            Ok(text) => Reply::Done(text),
+            Err(stop) => Reply::Stopped(stop),
+        }
+    }
+
+    /// How the call is to end.
+    pub fn status(&self) -> Status
+        ensures { result ≡ reply_status self.now }
+    {
+        match self {
+            Reply::Done(_) => Status::Done,
+            Reply::Stopped(Stop::Ended(ending, _)) => ending.status(),
+            Reply::Stopped(Stop::Unread(_)) => Status::ReadFault,
+            Reply::Stopped(Stop::Unsaved) => Status::WriteFault,
+            Reply::Stopped(Stop::NoMemory) => Status::NoMemory,
+            Reply::Usage => Status::Usage,
+        }
+    }
+
+    /// What is to be written, whole. It takes no memory.
+    pub fn text(&self) -> &[u8]
+        ensures { result.now ≡ reply_text self.now }
+    {
+        match self {
+            Reply::Done(text) | Reply::Stopped(Stop::Ended(_, text)) => text.as_slice(),
+            Reply::Stopped(Stop::Unread(role)) => role.unread_line().as_bytes(),
+            Reply::Stopped(Stop::Unsaved | Stop::NoMemory) => b"",
+            Reply::Usage => b"usage: see --help\n",
         }
     }
 }
 
-/// Writes the reply's text in one go. Where memory ran out or a save failed there is none.
+/// Writes the reply's text in one go. Where memory ran out or a save failed nothing is written.
 pub fn deliver<K: Sink>(out: &mut K, reply: &Reply) -> Status
-    ensures { Delivers reply.now.status reply.now.text.items (paper K.written K.faults out.old)
+    ensures { Delivers (reply_status reply.now) (reply_text reply.now) (paper K.written K.faults out.old)
         (paper K.written K.faults out.new) result }
 {
-    match reply.status {
-        Status::NoMemory | Status::WriteFault => reply.status,
-        status => match out.write(reply.text.as_slice()) {
+    match reply.status() {
+        Status::NoMemory => Status::NoMemory,
+        Status::WriteFault => Status::WriteFault,
+        status => match out.write(reply.text()) {
             Ok(()) => status,
             Err(_) => Status::WriteFault,
         },

@@ -9,9 +9,13 @@
 #![tactic(auto)]
 
 mod delivery;
+mod file_words;
 mod loading;
 mod outcome;
+mod printing;
 
 pub use delivery::{Reply, deliver};
+pub use file_words::{are_words, is_another};
 pub use loading::{load_bytes, save_bytes};
 pub use outcome::{Ending, Role, Status, Stop, end_as, refuse, refuse_at, refuse_named};
+pub use printing::print_text;

@@ -1,7 +1,8 @@
 ghost use Rattle.std.specs.Prelude.{◌≡◌, Some, IfOk};
 ghost use Rattle.command_outcome.specs.declared.outcome.Stop.TheVariants as stop;
-ghost use Rattle.command_outcome.specs.Outcome.{EndsAs, Refuses, fault_at, fault_of, refused_text};
-ghost use Rattle.command_outcome.specs.Outcome.{role_text, status_of};
+ghost use Rattle.command_outcome.specs.Outcome.{EndsAs, Refuses, exit_number, fault_at, fault_of};
+ghost use Rattle.command_outcome.specs.Outcome.{refused_text};
+ghost use Rattle.command_outcome.specs.Outcome.{role_text, status_of, unread_text};
 
 use preorder::NoMemory;
 use std::alloc::{AllocError, AllocFailed, Global};
@@ -100,6 +101,24 @@ impl From<NoMemory> for Stop {
     }
 }
 
+impl Status {
+    /// The number that a program ends with.
+    pub fn exit_number(self) -> u8
+        ensures { result ≡ exit_number self }
+    {
+        match self {
+            Status::Done => 0,
+            Status::Refused => 1,
+            Status::Usage => 2,
+            Status::ReadFault => 3,
+            Status::WriteFault => 4,
+            Status::NoMemory => 5,
+            Status::Rejected => 6,
+            Status::TooManyLabels => 7,
+        }
+    }
+}
+
 impl Ending {
     /// The status of a call that ends so.
     pub fn status(self) -> Status
@@ -129,6 +148,24 @@ impl Role {
             Role::Child => "child",
             Role::Script => "script",
             Role::Records => "records",
+        }
+    }
+
+    /// The line that says that the file in this role couldn't be read.
+    pub fn unread_line(self) -> &'static str
+        ensures { result.now ≡ unread_text self }
+    {
+        match self {
+            Role::Book => "cannot read book\n",
+            Role::Table => "cannot read table\n",
+            Role::Scenario => "cannot read scenario\n",
+            Role::Lattice => "cannot read lattice\n",
+            Role::List => "cannot read list\n",
+            Role::Certificate => "cannot read certificate\n",
+            Role::Parent => "cannot read parent\n",
+            Role::Child => "cannot read child\n",
+            Role::Script => "cannot read script\n",
+            Role::Records => "cannot read records\n",
         }
     }
 }

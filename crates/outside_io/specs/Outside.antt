@@ -22,10 +22,11 @@ Files = FinMap (slice_cmp nat_cmp) (List ℕ)
 abbrev pub Rose : ℕ → ℕ → Type 0
 Rose before now = min (before + 1) (2 ^ 64 - 1) ≤ now
 
--- the count never falls, and the fault comes only where it rose
+-- the count never falls, the fault comes only where it rose, and for any other answer it stands
 pub record HasCause {T E : Type 0} (before now : ℕ) (fault : E) (result : Result T E) : Type 0 where
   pub later : before ≤ now
   pub rose : IsErrOf result fault → Rose before now
+  pub same : ¬ IsErrOf result fault → now ≡ before
 
 -- what a load answers over files that the store tells
 abbrev pub LoadAnswers : Option Files → List ℕ → Result (Vec ℕ Global) LoadFault → Type 0

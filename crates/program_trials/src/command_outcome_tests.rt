@@ -43,11 +43,11 @@ fn a_save_that_fails_is_told(rt: HostRuntime) -> Result<(), Fail> {
 #[test]
 fn a_reply_is_written_in_one_go(rt: HostRuntime) -> Result<(), Fail> {
     let mut out = MemorySink::with_room(rt.alloc(), 39)?;
-    let refused = Reply::to(rt.alloc(), Err(refuse(rt.alloc(), Role::Book, "no-rules")));
+    let refused = Reply::to(Err(refuse(rt.alloc(), Role::Book, "no-rules")));
     assert_eq!(rt; deliver(&mut out, &refused), Status::Refused);
-    let unsaved = Reply::to(rt.alloc(), Err(Stop::Unsaved));
+    let unsaved = Reply::to(Err(Stop::Unsaved));
     assert_eq!(rt; deliver(&mut out, &unsaved), Status::WriteFault);
-    let unread = Reply::to(rt.alloc(), Err(Stop::Unread(Role::Table)));
+    let unread = Reply::to(Err(Stop::Unread(Role::Table)));
     assert_eq!(rt; deliver(&mut out, &unread), Status::WriteFault);
     assert_eq!(rt;
         out.written(),
@@ -68,12 +68,12 @@ fn each_end_has_its_status_and_its_text(rt: HostRuntime) -> Result<(), Fail> {
         ),
     ];
     for (ending, text, status) in rows {
-        let reply = Reply::to(rt.alloc(), Err(end_as(rt.alloc(), ending, text)));
-        assert_eq!(rt; reply.status, status);
-        assert_eq!(rt; reply.text.as_slice(), text.as_bytes());
+        let reply = Reply::to(Err(end_as(rt.alloc(), ending, text)));
+        assert_eq!(rt; reply.status(), status);
+        assert_eq!(rt; reply.text(), text.as_bytes());
     }
-    let usage = Reply::usage(rt.alloc());
-    assert_eq!(rt; usage.text.as_slice(), b"usage: see --help\n".as_slice());
+    assert_eq!(rt; Reply::Usage.status(), Status::Usage);
+    assert_eq!(rt; Reply::Usage.text(), b"usage: see --help\n".as_slice());
     Ok(())
 }
 

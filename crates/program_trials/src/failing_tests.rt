@@ -71,7 +71,7 @@ const CHECK: [&str; 5] = ["check", "s", "b", "l", "c"];
 
 #[test]
 fn a_load_that_fails_is_told_with_its_role(rt: HostRuntime) -> Result<(), Fail> {
-    let rows: [(&[&str], u64, &[u8]); 9] = [
+    let rows: [(&[&str], u64, &[u8]); 11] = [
         (&["pick", "b", "t"], 1, b"cannot read book\n"),
         (&["pick", "b", "t"], 2, b"cannot read table\n"),
         (&["compare", "b", "t"], 1, b"cannot read book\n"),
@@ -81,6 +81,8 @@ fn a_load_that_fails_is_told_with_its_role(rt: HostRuntime) -> Result<(), Fail> 
         (&PLAN, 1, b"cannot read scenario\n"),
         (&PLAN, 3, b"cannot read lattice\n"),
         (&CHECK, 4, b"cannot read certificate\n"),
+        (&["accept", "b", "b"], 1, b"cannot read parent\n"),
+        (&["accept", "b", "b"], 2, b"cannot read child\n"),
     ];
     for (words, load, text) in rows {
         let left = run(rt.alloc(), words, Failing { load, ..NOTHING })?;

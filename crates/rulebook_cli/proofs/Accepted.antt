@@ -21,19 +21,20 @@ use Rattle.command_outcome.specs.declared.outcome.Role.TheVariants as role
 use Rattle.command_outcome.specs.declared.outcome.Status.TheVariants as status
 use Rattle.command_outcome.specs.Inputs.{Halt, absent, refusal, and_then, gives, held_as, in_role, told}
 use Rattle.command_outcome.specs.Outcome.{Outcome, refused_text}
-use Rattle.command_outcome.specs.Tasks.{IsDueTo, Settles}
+use Rattle.command_outcome.specs.Tasks.{IsDueTo, Settles, task_by}
 use Rattle.command_outcome.proofs.Serving.{outcome}
-use Rattle.rulebook_cli.specs.Asked.{task_by}
-use Rattle.rulebook_cli.specs.Certificates.{certificate_fault_text, certificate_input, certificate_read}
-use Rattle.rulebook_cli.specs.Check.{CheckMakes, check_inputs, check_task}
-use Rattle.rulebook_cli.specs.Inputs.{book_read}
+use Rattle.rulebook_cli.specs.Asked.{task_of}
+use Rattle.check_command.specs.Certificates.{certificate_fault_text, certificate_input, certificate_read}
+use Rattle.check_command.specs.Check.{CheckMakes, check_inputs, check_task}
+use Rattle.bound_scene.specs.Inputs.{book_read}
 use Rattle.rulebook_cli.specs.Laws.{PlansAreAccepted}
-use Rattle.rulebook_cli.specs.Plan.{IsPlanned, PlanMakes, plan_inputs, plan_task}
-use Rattle.rulebook_cli.specs.ScenarioInput.{scenario_read}
-use Rattle.rulebook_cli.specs.SceneInputs.{bound_scene, lattice_read, scene_files, with_book, with_lattice}
-use Rattle.rulebook_cli.specs.Words.{Request, plan, check, is_another, is_word, reading, with_words}
-use Rattle.rulebook_cli.specs.declared.scene_files.SceneFiles.{SceneFiles}
-use Rattle.rulebook_cli.proofs.Ascending.{flips}
+use Rattle.rulebook_commands.specs.Plan.{IsPlanned, PlanMakes, plan_inputs, plan_task}
+use Rattle.bound_scene.specs.ScenarioInput.{scenario_read}
+use Rattle.bound_scene.specs.SceneInputs.{bound_scene, lattice_read, scene_files, with_book, with_lattice}
+use Rattle.command_outcome.specs.FileWords.{is_another, is_word}
+use Rattle.rulebook_cli.specs.Words.{Request, plan, check, reading, with_words}
+use Rattle.bound_scene.specs.declared.scene_files.SceneFiles.{SceneFiles}
+use Rattle.check_command.proofs.AscendingAnswers.{flips}
 
 -- ---- files under other names
 
@@ -173,16 +174,16 @@ if_words false q r h = inl refl
 read_alike : (words : List (List ℕ)) → ReadAlike (reading (codes "plan" ∷ words)) (reading (codes "check" ∷ words))
 read_alike words = if_words (list_all is_word words) (with_words (codes "plan") words) (with_words (codes "check") words) (with_alike words)
 
-by_reading : (q r : Option Request) → ReadAlike q r → (files : Files) (planned : Outcome) → IsDueTo (task_by q) files planned → planned.status ≡ status.Done
-    → IsDueTo (task_by r) planned.files (outcome status.Done (codes "accepted\n" ++ planned.text) planned.files)
+by_reading : (q r : Option Request) → ReadAlike q r → (files : Files) (planned : Outcome) → IsDueTo (task_by task_of q) files planned → planned.status ≡ status.Done
+    → IsDueTo (task_by task_of r) planned.files (outcome status.Done (codes "accepted\n" ++ planned.text) planned.files)
 unfolding ReadAlike
-by_reading q r (inl none) files planned due done = absurd (used (sym (ap (λ (o : Outcome). o.status) (subst (λ (x : Option Request). IsDueTo (task_by x) files planned) none due)) ∙ done))
+by_reading q r (inl none) files planned due done = absurd (used (sym (ap (λ (o : Outcome). o.status) (subst (λ (x : Option Request). IsDueTo (task_by task_of x) files planned) none due)) ∙ done))
   where
     used : status.Usage ≡ status.Done → ⊥
     used e = absurd cc
 by_reading q r (inr (s, b, l, c, is, again, apart)) files planned due done =
-    subst (λ (x : Option Request). IsDueTo (task_by x) planned.files (outcome status.Done (codes "accepted\n" ++ planned.text) planned.files)) (sym again)
-    (plan_accepted s b l c apart files planned (subst (λ (x : Option Request). IsDueTo (task_by x) files planned) is due) done)
+    subst (λ (x : Option Request). IsDueTo (task_by task_of x) planned.files (outcome status.Done (codes "accepted\n" ++ planned.text) planned.files)) (sym again)
+    (plan_accepted s b l c apart files planned (subst (λ (x : Option Request). IsDueTo (task_by task_of x) files planned) is due) done)
 
 pub plans_accepted : PlansAreAccepted
 plans_accepted words files planned = by_reading (reading (codes "plan" ∷ words)) (reading (codes "check" ∷ words)) (read_alike words) files planned

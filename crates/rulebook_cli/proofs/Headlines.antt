@@ -1,30 +1,24 @@
 -- The due outcomes of `plan` and `check` in the words of the headline.
 use Rattle.std.proofs.Common.{◌≡◌, ℕ, List, [], Option, Some, Result, Ok, Err, IfSome, refl, sym, ap, subst, ◌∙◌, inl, inr}
-use Rattle.std.specs.Prelude.{codes}
 use Rattle.std.specs.FinMap.{get}
 use Rattle.outside_io.specs.Outside.{Files}
 use Rattle.certificate_text.specs.Text.{text}
 use Rattle.certificate_text.specs.declared.certificate.Certificate.{Certificate}
 use Rattle.command_outcome.specs.Ends.{EndsDue, Shelf}
 use Rattle.command_outcome.specs.Inputs.{Halt, absent, refusal, gives}
-use Rattle.command_outcome.specs.Outcome.{IsDueStatus, Outcome}
-use Rattle.command_outcome.specs.Tasks.{IsDueTo, Settles}
+use Rattle.command_outcome.specs.Outcome.{Outcome}
+use Rattle.command_outcome.specs.Tasks.{IsDueTo, Settles, task_by}
 use Rattle.command_outcome.specs.declared.outcome.Status.{Status}
 use Rattle.command_outcome.specs.declared.outcome.Status.TheVariants as status
 use Rattle.command_outcome.proofs.Options.{map_some}
-use Rattle.rulebook_cli.specs.Asked.{asked, task_by}
-use Rattle.rulebook_cli.specs.Check.{CheckMakes, check_inputs, check_task}
-use Rattle.rulebook_cli.specs.Headline.{CheckPrintsTheAnswer, HoldsGoodCertificate, IsAnswerWritten, PlanPrintsTheAnswer}
-use Rattle.rulebook_cli.specs.Plan.{PlanMakes, plan_inputs, plan_task}
+use Rattle.rulebook_cli.specs.Asked.{asked, task_of}
+use Rattle.check_command.specs.Headline.{IsAnswerWritten}
+use Rattle.check_command.proofs.CheckHeadline.{accepts}
+use Rattle.rulebook_cli.specs.Headline.{CheckPrintsTheAnswer, HoldsGoodCertificate, PlanPrintsTheAnswer}
+use Rattle.rulebook_commands.specs.Plan.{PlanMakes, plan_inputs, plan_task}
 use Rattle.rulebook_cli.specs.Words.{Request, plan, check, reading}
-use Rattle.rulebook_cli.specs.declared.scene_files.SceneFiles.{SceneFiles}
+use Rattle.bound_scene.specs.declared.scene_files.SceneFiles.{SceneFiles}
 use Rattle.rulebook_cli.proofs.Accepted.{held_here}
-
-pub done_is_due : (s : Status) → s ≡ status.Done → IsDueStatus s
-done_is_due s done = subst IsDueStatus (sym done) tt
-
-status_of : Outcome → Status
-status_of o = o.status
 
 module _ (Written : List ℕ → Type 0) (files : Files) (o : Outcome) (done : o.status ≡ status.Done) (written : Written o.text) where
   not_refused : (text : List ℕ) → o ≡ record { status = status.Refused; text = text; files = files } → ⊥
@@ -47,6 +41,8 @@ module _ (Written : List ℕ → Type 0) (files : Files) (o : Outcome) (done : o
       record {
         certificate = h.plans.certificate;
         good = h.plans.shows.good;
+        undominated = h.plans.undominated;
+        within = h.plans.has_text;
         holds = subst (λ (a : Option Files). IfSome a (λ held. get held name ≡ Some (text h.plans.certificate))) (sym (left ∙ ap (λ (f : Files). Some f) h.saves)) (held_here files name h.bytes ∙ ap (λ (b : List ℕ). Some b) h.plans.saves);
       },
     )
@@ -63,35 +59,13 @@ module _ (Written : List ℕ → Type 0) (files : Files) (o : Outcome) (done : o
     pub plan_written : IsDueTo (plan_task scenario book lattice name) files o → Planned
     plan_written due = plan_by (gives (plan_inputs scenario book lattice) files) refl due
 
-  -- ---- check
-
-  module _ (scenario book lattice name : List ℕ) where
-    abbrev Checked : Type 0
-    Checked = (input : SceneFiles × Certificate) × (gives (check_inputs scenario book lattice name) files ≡ Ok input) × IsAnswerWritten (codes "accepted\n") input.0 Written
-
-    check_made : (input : SceneFiles × Certificate) → gives (check_inputs scenario book lattice name) files ≡ Ok input → CheckMakes files input o → Checked
-    check_made input is (inl h) = (input, is, record { answers = h.answers; answers_are = h.shows.answers_are; written = subst Written (ap (λ (p : Outcome). p.text) h.is) written })
-    check_made input is (inr h) = absurd (clash (sym done ∙ ap (λ (p : Outcome). p.status) h.is))
-      where
-        clash : status.Done ≡ status.Rejected → ⊥
-        clash e = absurd cc
-
-    check_by : (r : Result (SceneFiles × Certificate) Halt) → gives (check_inputs scenario book lattice name) files ≡ r → Settles r (CheckMakes files) files o → Checked
-    check_by (Ok input) is h = check_made input is h
-    check_by (Err (refusal text)) is h = absurd (not_refused text h)
-    check_by (Err absent) is h = absurd h
-
-    pub check_written : IsDueTo (check_task scenario book lattice name) files o → Checked
-    check_written due = check_by (gives (check_inputs scenario book lattice name) files) refl due
-
 module _ (words : List (List ℕ)) (old new : Shelf) (s : Status) (Written : List ℕ → Type 0) (done : s ≡ status.Done) (due : EndsDue (asked words) old new s Written) where
-  due_to : (files : Files) (request : Request) (o : Outcome) → reading words ≡ Some request → IsDueTo (asked words) files o → IsDueTo (task_by (Some request)) files o
-  due_to files request o is h = subst (λ (q : Option Request). IsDueTo (task_by q) files o) is h
+  due_to : (request : Request) → reading words ≡ Some request → EndsDue (task_of request) old new s Written
+  due_to request is = subst (λ (q : Option Request). EndsDue (task_by task_of q) old new s Written) is due
 
   pub plan_prints : PlanPrintsTheAnswer words old.held new.held Written
   plan_prints scenario book lattice name is =
-      map_some old.held (λ files told h. plan_written Written files (record { status = s; text = h.0; files = h.1 }) done h.4 scenario book lattice name new.held h.3 (due_to files (plan scenario book lattice name) (record { status = s; text = h.0; files = h.1 }) is h.2)) due.1
+      map_some old.held (λ files told h. plan_written Written files (record { status = s; text = h.0; files = h.1 }) done h.4 scenario book lattice name new.held h.3 h.2) (due_to (plan scenario book lattice name) is).1
 
   pub check_prints : CheckPrintsTheAnswer words old.held Written
-  check_prints scenario book lattice name is =
-      map_some old.held (λ files told h. check_written Written files (record { status = s; text = h.0; files = h.1 }) done h.4 scenario book lattice name (due_to files (check scenario book lattice name) (record { status = s; text = h.0; files = h.1 }) is h.2)) due.1
+  check_prints scenario book lattice name is = accepts scenario book lattice name old new s Written done (due_to (check scenario book lattice name) is)

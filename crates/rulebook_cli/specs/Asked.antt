@@ -1,19 +1,19 @@
 -- What words ask for, as a task. This project's own.
-use Rattle.std.specs.Prelude.{ℕ, List, Option, None, Some}
-use Rattle.command_outcome.specs.Tasks.{Task, usage}
+use Rattle.std.specs.Prelude.{ℕ, List}
+use Rattle.command_outcome.specs.Tasks.{Task, print_task, task_by}
 use Rattle.rulebook_cli.specs.Words.{Request, pick, compare, show, walk, accept, derive, judge}
 use Rattle.rulebook_cli.specs.Words.{plan, check, sample, help, reading}
 use Rattle.rulebook_cli.specs.Pick.{pick_task}
-use Rattle.rulebook_cli.specs.Compare.{compare_task}
-use Rattle.rulebook_cli.specs.Show.{show_task}
-use Rattle.rulebook_cli.specs.Walk.{walk_task}
-use Rattle.rulebook_cli.specs.Accept.{accept_task}
-use Rattle.rulebook_cli.specs.Derive.{derive_task}
-use Rattle.rulebook_cli.specs.Judge.{judge_task}
-use Rattle.rulebook_cli.specs.Plan.{plan_task}
-use Rattle.rulebook_cli.specs.Check.{check_task}
-use Rattle.rulebook_cli.specs.Sample.{sample_task}
-use Rattle.rulebook_cli.specs.Help.{help_task}
+use Rattle.rulebook_commands.specs.Compare.{compare_task}
+use Rattle.rulebook_commands.specs.Show.{show_task}
+use Rattle.rulebook_commands.specs.Walk.{walk_task}
+use Rattle.rulebook_commands.specs.Accept.{accept_task}
+use Rattle.rulebook_commands.specs.Derive.{derive_task}
+use Rattle.rulebook_commands.specs.Judge.{judge_task}
+use Rattle.rulebook_commands.specs.Plan.{plan_task}
+use Rattle.check_command.specs.Check.{check_task}
+use Rattle.rulebook_commands.specs.Sample.{sample_task}
+use Rattle.rulebook_cli.specs.Help.{help_text}
 
 abbrev pub task_of : Request → Task
 task_of (pick book table) = pick_task book table
@@ -26,12 +26,8 @@ task_of (judge scenario book lattice records) = judge_task scenario book lattice
 task_of (plan scenario book lattice certificate) = plan_task scenario book lattice certificate
 task_of (check scenario book lattice certificate) = check_task scenario book lattice certificate
 task_of (sample number) = sample_task number
-task_of help = help_task
+task_of help = print_task help_text
 
 -- words with no reading are told the usage
-abbrev pub task_by : Option Request → Task
-task_by None = usage
-task_by (Some request) = task_of request
-
 abbrev pub asked : List (List ℕ) → Task
-asked words = task_by (reading words)
+asked words = task_by task_of (reading words)

@@ -1,31 +1,26 @@
 -- What a `plan` and a `check` that are done print and leave: the answer over the scene of their
 -- files.
-use Rattle.std.specs.Prelude.{◌≡◌, ℕ, List, [], ◌++◌, Option, Some, Ok, IfSome, codes}
+use Rattle.std.specs.Prelude.{◌≡◌, ℕ, List, [], Option, Some, Ok, IfSome}
 use Rattle.std.specs.FinMap.{get}
 use Rattle.outside_io.specs.Outside.{Files}
-use Rattle.certificate_text.specs.Text.{text}
+use Rattle.certificate_text.specs.Text.{HasText, text}
 use Rattle.certificate_text.specs.declared.certificate.Certificate.{Certificate}
 use Rattle.certificate_checker.specs.GoodCertificate.{IsGood}
-use Rattle.certificate_checker.specs.declared.checked.Attained.{Attained}
 use Rattle.command_outcome.specs.Inputs.{gives}
-use Rattle.rulebook_cli.specs.Answers.{AreAnswers, NoWorseFor, answer_text, graph_of}
-use Rattle.rulebook_cli.specs.Check.{check_inputs}
-use Rattle.rulebook_cli.specs.Plan.{plan_inputs}
+use Rattle.check_command.specs.Answers.{NoWorseFor, graph_of}
+use Rattle.check_command.specs.Headline.{AcceptsTheAnswer, IsAnswerWritten}
+use Rattle.rulebook_commands.specs.Plan.{HasUndominated, plan_inputs}
 use Rattle.rulebook_cli.specs.Words.{plan, check, reading}
-use Rattle.rulebook_cli.specs.declared.scene_files.SceneFiles.{SceneFiles}
+use Rattle.bound_scene.specs.declared.scene_files.SceneFiles.{SceneFiles}
 
--- the answer over the scene was written, behind some words
-pub record IsAnswerWritten (words : List ℕ) (scene : SceneFiles)
-    (Written : List ℕ → Type 0) : Type 0 where
-  pub answers : List Attained
-  pub answers_are : AreAnswers scene answers
-  pub written : Written (words ++ answer_text scene answers)
-
--- the name holds the text of a certificate that shows the answer
+-- the name holds the text of a certificate that shows the answer: it meets the conditions, its
+-- labels have exactly the undominated pairs, each once, and it keeps to the limits of a text
 pub record HoldsGoodCertificate (name : List ℕ) (scene : SceneFiles)
     (after : Option Files) : Type 0 where
   pub certificate : Certificate
   pub good : IsGood (graph_of scene) (NoWorseFor scene) certificate
+  pub undominated : HasUndominated scene certificate
+  pub within : HasText certificate
   pub holds : IfSome after (λ files. get files name ≡ Some (text certificate))
 
 -- words that are `plan SCENARIO BOOK LATTICE CERT`: the three files have readings that are accepted
@@ -43,6 +38,4 @@ PlanPrintsTheAnswer words held after Written =
 abbrev pub CheckPrintsTheAnswer : List (List ℕ) → Option Files → (List ℕ → Type 0) → Type 0
 CheckPrintsTheAnswer words held Written =
     (scenario book lattice name : List ℕ) → reading words ≡ Some (check scenario book lattice name)
-    → IfSome held (λ files. (input : SceneFiles × Certificate)
-    × (gives (check_inputs scenario book lattice name) files ≡ Ok input)
-    × IsAnswerWritten (codes "accepted\n") input.0 Written)
+    → AcceptsTheAnswer scenario book lattice name held Written

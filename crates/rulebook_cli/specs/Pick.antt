@@ -11,7 +11,7 @@ use Rattle.rulebook_order.specs.Front.{vectors_of, IsFront}
 use Rattle.command_outcome.specs.declared.outcome.Status.TheVariants as status
 use Rattle.command_outcome.specs.Outcome.{Outcome}
 use Rattle.command_outcome.specs.Tasks.{Task}
-use Rattle.rulebook_cli.specs.Inputs.{book_and_table}
+use Rattle.bound_scene.specs.Inputs.{book_and_table}
 
 abbrev pub no_row : Row
 no_row = record { name = []; values = [] }

@@ -1,13 +1,11 @@
 -- What the words of the command line ask for. This project's own.
-use Rattle.std.specs.Prelude.{◌≡◌, ◌≤◌, ℕ, Bool, false, not, ◌&&◌, ◌==◌, if◌then◌else◌, List, []}
-use Rattle.std.specs.Prelude.{◌∷◌, map, Option, None, Some, length, nat_le, ⊤, codes}
-use Rattle.std.specs.declared.alloc.Global.{Global}
-use Rattle.std.specs.declared.string.String.{String}
-use Rattle.std.specs.String.{string_bytes}
+use Rattle.std.specs.Prelude.{◌≡◌, ◌≤◌, ℕ, ◌&&◌, if◌then◌else◌, List, [], ◌∷◌, Option, None, Some}
+use Rattle.std.specs.Prelude.{length, nat_le, ⊤, codes}
 use Rattle.std.specs.List.{list_all}
 use Rattle.std.specs.Option.{option_map}
 use Rattle.std.specs.Str.{bytes_eq}
 use Rattle.reading.specs.Words.{number_of}
+use Rattle.command_outcome.specs.FileWords.{is_another, is_word}
 use Rattle.sample_scene.specs.declared.sample.TheConstants.{MAX_NUMBER}
 use Rattle.rulebook_cli.specs.declared.words.Command.{Command}
 use Rattle.rulebook_cli.specs.declared.words.Command.TheVariants.{Pick, Compare, Show, Walk, Accept}
@@ -28,18 +26,6 @@ pub data Request : Type 0 where
   check : (scenario book lattice certificate : List ℕ) → Request
   sample : (number : ℕ) → Request
   help : Request
-
--- the words as plain texts
-abbrev pub texts : List (String Global) → List (List ℕ)
-texts words = map string_bytes words
-
-abbrev pub dash : ℕ
-dash = 45
-
--- a word behind a command, as the name of a file, isn't empty and doesn't begin with `-`
-abbrev pub is_word : List ℕ → Bool
-is_word [] = false
-is_word (c ∷ rest) = not (c == dash)
 
 -- the command without a word
 abbrev pub no_words : List ℕ → Option Request
@@ -64,10 +50,6 @@ two_words command a b =
     else if bytes_eq command (codes "accept") then Some (accept a b)
     else if bytes_eq command (codes "derive") then Some (derive a b)
     else None
-
--- the last name is none of the others
-abbrev pub is_another : List ℕ → List ℕ → List ℕ → List ℕ → Bool
-is_another a b c d = not (bytes_eq d a) && (not (bytes_eq d b) && not (bytes_eq d c))
 
 -- the commands of four words; a certificate is another file than the inputs
 abbrev pub four_words : List ℕ → List ℕ → List ℕ → List ℕ → List ℕ → Option Request

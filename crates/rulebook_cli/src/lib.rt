@@ -1,29 +1,13 @@
-//! The commands: words come in, and one text and one status go out.
+//! The words of a call, and the one call that the program makes.
 //!
 //! `run_rulebook` of `src/top.rt` is all that the program does, and its clauses say what that is.
-//! What is due to the words over the files stands in `specs/Asked.antt`.
-//! Each command is a file of code, one of definitions and one of lemmas.
+//! What is due to the words over the files stands in `specs/Asked.antt`. The commands stand in the
+//! crates below, but for `pick` and `--help`.
 #![tactic(auto)]
 
-mod answers;
-mod bound_scene;
-mod certificates;
-mod checking;
-mod comparing;
-mod derivations;
-mod helping;
-mod inputs;
 mod laws;
-mod ordering;
 mod picking;
-mod planning;
-mod recordings;
-mod sampling;
-mod scenario_input;
-mod scene_files;
-mod showing;
 mod top;
-mod walking;
 mod words;
 
 pub use laws::{

@@ -4,12 +4,12 @@ ghost use Rattle.rule_language.specs.Tables.{IsTable};
 ghost use Rattle.command_outcome.specs.Ends.{Serves, shelf};
 ghost use Rattle.rulebook_cli.specs.Pick.{IsPickText, kept_lines, pick_task};
 
-use crate::inputs::load_book_and_table;
-use crate::ordering::front_by;
+use bound_scene::load_book_and_table;
 use command_outcome::Stop;
 use outside_io::Store;
 use preorder::{NoMemory, Row};
 use rule_language::Book;
+use rulebook_commands::front_by;
 use std::alloc::{AllocError, Global};
 use text_lines::push_row;
 

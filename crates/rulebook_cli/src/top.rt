@@ -1,25 +1,22 @@
 ghost use Rattle.std.specs.Prelude.{◌≡◌, ◌⊎◌};
 ghost use Rattle.std.specs.Io.KnownBytes.{Appends};
-ghost use Rattle.command_outcome.specs.Outcome.{IsDueStatus};
+ghost use Rattle.command_outcome.specs.Outcome.{IsDueStatus, TellsNoFault};
 ghost use Rattle.command_outcome.specs.Ends.{Answers, EndsCut, EndsDue, EndsUnread, EndsUnsaved};
-ghost use Rattle.command_outcome.specs.Ends.{EndsUsage, IsComplete, Serves, paper, shelf};
-ghost use Rattle.rulebook_cli.specs.Words.{HasNoReading, IsCommand, request_of, texts};
+ghost use Rattle.command_outcome.specs.Ends.{EndsUsage, IsComplete, LeavesAll, NoneFailed, Serves};
+ghost use Rattle.command_outcome.specs.Ends.{paper, reply_status, reply_text, shelf};
+ghost use Rattle.command_outcome.specs.FileWords.{texts};
+ghost use Rattle.rulebook_cli.specs.Words.{HasNoReading, IsCommand, request_of};
 ghost use Rattle.rulebook_cli.specs.Asked.{asked, task_of};
 ghost use Rattle.rulebook_cli.specs.Headline.{CheckPrintsTheAnswer, PlanPrintsTheAnswer};
 
-use crate::checking::check;
-use crate::comparing::compare_rows;
-use crate::derivations::{accept_child, derive};
-use crate::helping::help;
 use crate::picking::pick;
-use crate::planning::plan;
-use crate::recordings::judge_records;
-use crate::sampling::sample;
-use crate::showing::show;
-use crate::walking::walk;
-use crate::words::{Command, read_words};
-use command_outcome::{Reply, Status, Stop, deliver};
+use crate::words::{Command, HELP, read_words};
+use check_command::check;
+use command_outcome::{Reply, Status, Stop, deliver, print_text};
 use outside_io::{Sink, Store};
+use rulebook_commands::{
+    accept_child, compare_rows, derive, judge_records, plan, sample, show, walk,
+};
 use std::alloc::Global;
 
 // Does the command's work.
@@ -60,7 +57,7 @@ fn serve<S: Store>(alloc: Global, store: &mut S, command: Command<'_>) -> Result
             certificate,
         } => check(alloc, store, scenario, book, lattice, certificate),
         Command::Sample { number } => sample(alloc, number),
-        Command::Help => help(alloc),
+        Command::Help => print_text(alloc, HELP),
     }
 }
 
@@ -68,12 +65,12 @@ fn serve<S: Store>(alloc: Global, store: &mut S, command: Command<'_>) -> Result
 fn answer<S: Store>(alloc: Global, words: &[String], store: &mut S) -> Reply
     ensures { Answers (asked (texts words.now)) (HasNoReading (texts words.now))
         (shelf S.held S.faults S.failed store.old)
-        (shelf S.held S.faults S.failed store.new) result.status result.text.items }
+        (shelf S.held S.faults S.failed store.new) (reply_status result) (reply_text result) }
 {
     let Some(command) = read_words(words) else {
-        return Reply::usage(alloc);
+        return Reply::Usage;
     };
-    Reply::to(alloc, serve(alloc, store, command))
+    Reply::to(serve(alloc, store, command))
 }
 
 /// Does all that the program does: reads the words, loads and reads the files, does the command's
@@ -118,9 +115,15 @@ pub fn run_rulebook<S: Store, K: Sink>(
         (shelf S.held S.faults S.failed store.old) (shelf S.held S.faults S.failed store.new)
         (paper K.written K.faults out.old) (paper K.written K.faults out.new) }
 
-    // Memory ran out: nothing was saved or written.
-    ensures no_memory { result ≡ Status.NoMemory →
-        (S.held store.new ≡ S.held store.old) × (K.written out.new ≡ K.written out.old) }
+    // Memory ran out: no load failed, and nothing was saved or written.
+    ensures no_memory { result ≡ Status.NoMemory → LeavesAll
+        (shelf S.held S.faults S.failed store.old) (shelf S.held S.faults S.failed store.new)
+        (paper K.written K.faults out.old) (paper K.written K.faults out.new) }
+
+    // Where the status tells of no fault, no call of the store or the sink failed.
+    ensures no_fault { TellsNoFault result → NoneFailed
+        (shelf S.held S.faults S.failed store.old) (shelf S.held S.faults S.failed store.new)
+        (paper K.written K.faults out.old) (paper K.written K.faults out.new) }
 
     // Where no count of faults rose, the status is the due one, unless memory ran out.
     ensures complete { IsComplete (asked (texts words.now))

@@ -1,12 +1,11 @@
 ghost use Rattle.std.specs.Prelude.{◌≡◌, ◌≤◌, IfSome};
-ghost use Rattle.std.specs.List.{list_all};
 ghost use Rattle.std.specs.Option.{option_map};
-ghost use Rattle.std.specs.String.{string_bytes};
 ghost use Rattle.sample_scene.specs.declared.sample.TheConstants.{MAX_NUMBER};
-ghost use Rattle.rulebook_cli.specs.Words.{IsCommand, is_another, is_word, reading, texts};
-ghost use Rattle.rulebook_cli.specs.Words.{request_of, sample_number, no_words, one_word};
-ghost use Rattle.rulebook_cli.specs.Words.{two_words, four_words, with_words};
+ghost use Rattle.command_outcome.specs.FileWords.{texts};
+ghost use Rattle.rulebook_cli.specs.Words.{IsCommand, reading, request_of, sample_number, no_words};
+ghost use Rattle.rulebook_cli.specs.Words.{one_word, two_words, four_words, with_words};
 
+use command_outcome::{are_words, is_another};
 use reading::number_in;
 
 /// A command with its words, most of which name files.
@@ -72,29 +71,12 @@ pub enum Command<'a> {
     Help,
 }
 
+/// What `--help` writes: the commands with their words.
+pub const HELP: &str =
+    "pick BOOK TABLE\ncompare BOOK TABLE\nshow SCENARIO\nwalk SCENARIO BOOK LATTICE LIST\nplan SCENARIO BOOK LATTICE CERT\ncheck SCENARIO BOOK LATTICE CERT\naccept PARENT CHILD\nderive PARENT SCRIPT\njudge SCENARIO BOOK LATTICE RECORDS\nsample N\n--help\n";
+
 // The most digits of the number of a sample scene.
 const MAX_DIGITS: usize = 6;
-
-fn is_word(word: &str) -> bool
-    ensures { result ≡ is_word word.now }
-{
-    match word.as_bytes() {
-        [] => false,
-        [first, ..] => *first != b'-',
-    }
-}
-
-fn all_words(words: &[String]) -> bool
-    ensures { result ≡ list_all (λ word. is_word (string_bytes word)) words.now }
-{
-    words.iter().all(|word| is_word(word.as_str()))
-}
-
-fn are_words(words: &[String]) -> bool
-    ensures { result ≡ list_all is_word (texts words.now) }
-{
-    all_words(words)
-}
 
 /// The one reading of the words. None where they have none.
 pub fn read_words(words: &[String]) -> Option<Command<'_>>
@@ -175,13 +157,6 @@ fn two_words<'a>(command: &str, a: &'a str, b: &'a str) -> Option<Command<'a>>
         }),
         _ => None,
     }
-}
-
-// Whether the last name is none of the others.
-fn is_another(a: &str, b: &str, c: &str, d: &str) -> bool
-    ensures { result ≡ is_another a.now b.now c.now d.now }
-{
-    d != a && d != b && d != c
 }
 
 fn four_words<'a>(

@@ -1,9 +1,11 @@
 use Rattle.std.specs.Io.KnownBytes.{Appends}
 use Rattle.command_outcome.specs.Ends.{shelf}
 use Rattle.command_outcome.proofs.CallEnds.{ends}
-use Rattle.rulebook_cli.specs.Words.{HasNoReading, texts}
+use Rattle.command_outcome.specs.FileWords.{texts}
+use Rattle.rulebook_cli.specs.Words.{HasNoReading}
 use Rattle.rulebook_cli.specs.Asked.{asked}
-use Rattle.rulebook_cli.proofs.Headlines.{check_prints, done_is_due, plan_prints}
+use Rattle.check_command.proofs.CheckHeadline.{done_is_due}
+use Rattle.rulebook_cli.proofs.Headlines.{check_prints, plan_prints}
 use Rattle.rulebook_cli.proofs.top.run_rulebook.Goals as goal
 
 pub returns : goal.returns
@@ -20,6 +22,7 @@ returns g c =
       read_fault = e.read_fault;
       write_fault = e.write_fault;
       no_memory = e.no_memory;
+      no_fault = e.no_fault;
       complete = e.complete;
       usage = e.usage;
       bad_words = e.bad_words;

@@ -1,0 +1,4 @@
+pub mod Inputs
+pub mod ScenarioInput
+pub mod SceneInputs
+pub mod BoundScenes

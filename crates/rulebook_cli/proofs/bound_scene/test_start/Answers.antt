@@ -1,8 +1,0 @@
-use Rattle.std.proofs.Common.{List, ℕ, ap, sym, subst, ◌∙◌}
-use Rattle.scenario_model.specs.Scenario.{IsProblem}
-use Rattle.lanelet_network.specs.Lanes.{lane_ids}
-use Rattle.lanelet_network.proofs.Ids.{ids_kept}
-use Rattle.rulebook_cli.proofs.bound_scene.test_start.Goals as goal
-
-pub new-requires-clause-problem : goal.new-requires-clause-problem
-new-requires-clause-problem c = subst (λ (ids : List ℕ). IsProblem ids c.first_problem.result.now) (sym (ap lane_ids c.requires.network ∙ ids_kept c.args.files.now.scenario.lanelets)) c.first_problem.ensures.sound

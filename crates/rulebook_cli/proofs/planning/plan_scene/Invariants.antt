@@ -1,4 +1,0 @@
-use Rattle.rulebook_cli.proofs.planning.plan_scene.Given as goal
-
-abbrev pub ghosts-searched : goal.ghosts-searched
-ghosts-searched a = record { name = a.blank.name; parts = a.blank.parts }

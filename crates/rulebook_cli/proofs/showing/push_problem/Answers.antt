@@ -1,7 +1,0 @@
-use Rattle.std.proofs.Common.{rules, append_assoc}
-use Rattle.rulebook_cli.specs.Show.{problem_line}
-use Rattle.rulebook_cli.proofs.showing.push_problem.Goals as goal
-
-pub returns : goal.returns
-unfolding problem_line
-returns c = search (rules, append_assoc)

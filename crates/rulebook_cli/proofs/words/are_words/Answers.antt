@@ -1,8 +1,0 @@
-use Rattle.std.proofs.Common.{sym, ◌∙◌}
-use Rattle.std.proofs.lemmas.List.Folds.{list_all-map}
-use Rattle.std.specs.String.{string_bytes}
-use Rattle.rulebook_cli.specs.Words.{is_word}
-use Rattle.rulebook_cli.proofs.words.are_words.Goals as goal
-
-pub returns : goal.returns
-returns c = c.all_words.ensures ∙ sym (list_all-map is_word string_bytes c.args.words.now)

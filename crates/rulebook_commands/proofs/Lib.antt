@@ -1,0 +1,12 @@
+pub mod Lines
+pub mod Walks
+pub mod WalkTexts
+pub mod Planned
+pub mod Derivings
+pub mod Judgings
+pub mod Recorded
+pub mod Sampled
+pub mod CompareLaw
+pub mod ShowLaw
+pub mod WalkLaw
+pub mod PlanLaw

@@ -1,0 +1,15 @@
+pub mod Compare
+pub mod Show
+pub mod MoveList
+pub mod Walk
+pub mod Walked
+pub mod Plan
+pub mod Planning
+pub mod DeriveFaults
+pub mod Accept
+pub mod Derive
+pub mod RecordInput
+pub mod Judge
+pub mod Judgeable
+pub mod Sample
+pub mod Sampled
