@@ -8,6 +8,8 @@ pub mod last_first;
 pub mod place;
 #[cfg(test)]
 mod sample_tests;
+#[cfg(test)]
+mod scene_table_tests;
 pub mod table;
 #[cfg(test)]
 mod tests;
