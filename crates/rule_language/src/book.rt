@@ -7,7 +7,11 @@ ghost use Rattle.reading.specs.Lines.{lines_of};
 ghost use Rattle.reading.specs.Reading.{Gives, IsFirstFault};
 ghost use Rattle.reading.specs.Words.{number_of};
 ghost use Rattle.expressions.specs.Reading.{expr_of};
-ghost use Rattle.rule_language.specs.Books.{is_memory, is_of_file, place_of, rule_line, named_rule, pair, above_line, same_line, weight_from, or_syntax, part_of, add_part, part_line, pair_line, book_words, book_line, no_lines, book_of, IsBook, AnyBook, IsHalfPair, IsHalfLine};
+ghost use Rattle.rule_language.specs.Books.{is_memory, is_of_file, place_of, rule_line, named_rule};
+ghost use Rattle.rule_language.specs.Books.{pair, above_line, same_line, weight_from, or_syntax};
+ghost use Rattle.rule_language.specs.Books.{part_of, add_part, part_line, pair_line, book_words};
+ghost use Rattle.rule_language.specs.Books.{book_line, no_lines, book_of, IsBook, AnyBook};
+ghost use Rattle.rule_language.specs.Books.{IsHalfPair, IsHalfLine};
 ghost use Rattle.rule_language.specs.LineFiles.{Leaves};
 ghost use Rattle.rule_language.specs.declared.book.BookFault.TheVariants as faults;
 
