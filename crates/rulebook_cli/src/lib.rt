@@ -31,3 +31,4 @@ pub use laws::{
     plans_are_accepted,
 };
 pub use top::run_rulebook;
+pub use words::MAX_DIGITS;

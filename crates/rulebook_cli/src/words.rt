@@ -72,8 +72,8 @@ pub enum Command<'a> {
     Help,
 }
 
-// The most digits of the number of a sample scene.
-const MAX_DIGITS: usize = 6;
+/// The most digits of the number of a sample scene, as it is given in words.
+pub const MAX_DIGITS: usize = 6;
 
 fn is_word(word: &str) -> bool
     ensures { result ≡ is_word word.now }
