@@ -2,6 +2,7 @@
 use Rattle.std.specs.Prelude.{ℕ, List}
 use Rattle.rule_language.specs.declared.book.Book.{Book}
 use Rattle.book_operations.specs.Aggregation.{IsSumBy, IsAggregation, IsAggregationFault}
+use Rattle.book_operations.specs.Measures.{CarriesMeasured}
 use Rattle.book_operations.specs.Tests.{HasNamesOf, KeepsPreferencesOf, ShowsLoss, IsRefinement}
 use Rattle.book_operations.specs.Tests.{IsRefinementFault, IsAugmentation, IsAugmentationFault}
 use Rattle.book_operations.specs.Tests.{once}
@@ -34,6 +35,14 @@ KeepsAs parent child Refinement = KeepsPreferencesOf parent child once
 KeepsAs parent child Aggregation =
     (times : List ℕ → ℕ) → IsSumBy parent child times → KeepsPreferencesOf parent child times
 KeepsAs parent child Augmentation = KeepsPreferencesOf parent child once
+
+-- what is measured of the child carries what is measured of the parent, in an aggregation by
+-- whatever multipliers make the new rule the sum
+abbrev pub CarriesAs : Book → Book → Accepted → Type 0
+CarriesAs parent child Refinement = CarriesMeasured parent child once
+CarriesAs parent child Aggregation =
+    (times : List ℕ → ℕ) → IsSumBy parent child times → CarriesMeasured parent child times
+CarriesAs parent child Augmentation = CarriesMeasured parent child once
 
 -- the two vectors of a fault show a preference that is lost
 abbrev pub ShowsAs : Book → Book → Accepted → DeriveFault → Type 0

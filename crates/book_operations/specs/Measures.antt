@@ -5,7 +5,9 @@ use Rattle.std.specs.List.{sum_by}
 use Rattle.rule_language.specs.declared.book.Book.{Book}
 use Rattle.rule_language.specs.declared.book.Rule.{Rule}
 use Rattle.rule_language.specs.declared.part.Part.{Part}
+use Rattle.book_operations.specs.Derivation.{Carries}
 use Rattle.book_operations.specs.Same.{scaled}
+use Rattle.book_operations.specs.Tests.{size_of, becomes}
 
 -- the number of a part is in proportion to its weight
 pub record IsMeasure (amount : Part → ℕ) : Type 0 where
@@ -18,3 +20,9 @@ rule_amount amount rule = sum_by amount rule.parts
 -- a number for each rule, in the book's order
 abbrev pub measured : (Part → ℕ) → Book → List ℕ
 measured amount book = map (rule_amount amount) book.rules
+
+-- what is measured of the child carries what is measured of the parent, by whatever numbers of parts
+abbrev pub CarriesMeasured : Book → Book → (List ℕ → ℕ) → Type 0
+CarriesMeasured parent child times =
+    (amount : Part → ℕ) → IsMeasure amount → Carries (size_of parent) (size_of child)
+    (becomes parent child times) (measured amount parent) (measured amount child)

@@ -10,6 +10,7 @@ ghost use Rattle.book_operations.specs.Same.{has_equal};
 ghost use Rattle.book_operations.specs.Aggregation.{MergesRules, DiffersInRules, MergedAreOneClass};
 ghost use Rattle.book_operations.specs.Aggregation.{SplitsClass, IsSumBy, IsNoSum, IsAggregation};
 ghost use Rattle.book_operations.specs.Aggregation.{IsAggregationFault};
+ghost use Rattle.book_operations.specs.Measures.{CarriesMeasured};
 ghost use Rattle.book_operations.specs.Tests.{KeepsPreferencesOf, ShowsLoss};
 
 use crate::fault::DeriveFault;
@@ -135,6 +136,11 @@ pub fn test_aggregation(alloc: Global, parent: &Book, child: &Book) -> Result<()
     requires parent { IsBook parent.now }
     requires child { IsBook child.now }
     ensures accepts { OnOk result (IsAggregation parent.now child.now) }
+
+    // What is measured of an accepted child carries what is measured of the parent, where the new
+    // rule's value is the sum.
+    ensures carries { OnOk result ((times : List ℕ → ℕ) → IsSumBy parent.now child.now times
+        → CarriesMeasured parent.now child.now times) }
 
     // What is accepted keeps the parent's preferences, where the new rule's value is the sum.
     ensures keeps { OnOk result ((times : List ℕ → ℕ) → IsSumBy parent.now child.now times

@@ -4,6 +4,7 @@ ghost use Rattle.preorder.specs.Preorder.{rules_of, above};
 ghost use Rattle.rule_language.specs.Books.{IsBook};
 ghost use Rattle.book_operations.specs.First.{IsFirst, IsFirstPair};
 ghost use Rattle.book_operations.specs.Images.{AreImages, IsRaised};
+ghost use Rattle.book_operations.specs.Measures.{CarriesMeasured};
 ghost use Rattle.book_operations.specs.Tests.{AddedAreLowest, HasRulesOf, KeepsPreferencesOf};
 ghost use Rattle.book_operations.specs.Tests.{RaisesAdded, ShowsLoss, IsAugmentation};
 ghost use Rattle.book_operations.specs.Tests.{IsAugmentationFault, once};
@@ -93,6 +94,9 @@ pub fn test_augmentation(alloc: Global, parent: &Book, child: &Book) -> Result<(
     requires parent { IsBook parent.now }
     requires child { IsBook child.now }
     ensures accepts { OnOk result (IsAugmentation parent.now child.now) }
+
+    // What is measured of an accepted child carries what is measured of the parent.
+    ensures carries { OnOk result (CarriesMeasured parent.now child.now once) }
 
     // What is accepted keeps the parent's preferences.
     ensures keeps { OnOk result (KeepsPreferencesOf parent.now child.now once) }

@@ -1,6 +1,6 @@
 ghost use Rattle.std.specs.Prelude.{◌↔◌, IsTrue, IfOk, IfErr, OnOk};
 ghost use Rattle.rule_language.specs.Books.{IsBook};
-ghost use Rattle.book_operations.specs.Kinds.{IsOfKind, IsStep, KeepsAs, IsStepFault, ShowsAs};
+ghost use Rattle.book_operations.specs.Kinds.{IsOfKind, IsStep, CarriesAs, KeepsAs, IsStepFault, ShowsAs};
 ghost use Rattle.book_operations.specs.Tests.{HasNamesOf};
 ghost use Rattle.book_operations.specs.declared.kind.Accepted.{Accepted};
 
@@ -56,6 +56,7 @@ pub fn test_kind(
     requires parent { IsBook parent.now }
     requires child { IsBook child.now }
     ensures accepts { OnOk result (IsStep parent.now child.now kind) }
+    ensures carries { OnOk result (CarriesAs parent.now child.now kind) }
     ensures keeps { OnOk result (KeepsAs parent.now child.now kind) }
     ensures refuses { IfErr result (IsStepFault parent.now child.now kind) }
     ensures shows { IfErr result (ShowsAs parent.now child.now kind) }
@@ -75,6 +76,9 @@ pub fn accept(alloc: Global, parent: &Book, child: &Book) -> Result<Accepted, De
     requires child { IsBook child.now }
     ensures kind { IfOk result (IsOfKind parent.now child.now) }
     ensures accepts { IfOk result (IsStep parent.now child.now) }
+
+    // What is measured of an accepted child carries what is measured of the parent.
+    ensures carries { IfOk result (CarriesAs parent.now child.now) }
 
     // What is accepted keeps the parent's preferences.
     ensures keeps { IfOk result (KeepsAs parent.now child.now) }

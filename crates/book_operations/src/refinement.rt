@@ -3,6 +3,7 @@ ghost use Rattle.preorder.specs.Violation.{IsWidth};
 ghost use Rattle.rule_language.specs.Books.{IsBook};
 ghost use Rattle.book_operations.specs.Derivation.{one_at};
 ghost use Rattle.book_operations.specs.Images.{AreImages};
+ghost use Rattle.book_operations.specs.Measures.{CarriesMeasured};
 ghost use Rattle.book_operations.specs.Tests.{OthersAreLowest, IsCounted, MergesClasses};
 ghost use Rattle.book_operations.specs.Tests.{KeepsPreferencesOf, KeepsStrictPairs, LosesPair};
 ghost use Rattle.book_operations.specs.Tests.{ShowsLoss, IsRefinement, IsRefinementFault, once};
@@ -61,6 +62,9 @@ pub fn test_refinement(alloc: Global, parent: &Book, child: &Book) -> Result<(),
     requires parent { IsBook parent.now }
     requires child { IsBook child.now }
     ensures accepts { OnOk result (IsRefinement parent.now child.now) }
+
+    // What is measured of an accepted child carries what is measured of the parent.
+    ensures carries { OnOk result (CarriesMeasured parent.now child.now once) }
 
     // What is accepted keeps the parent's preferences.
     ensures keeps { OnOk result (KeepsPreferencesOf parent.now child.now once) }

@@ -5,12 +5,20 @@ use Rattle.std.proofs.Common.{cond, ◌∙◌, refl, sym, ap, subst, arith}
 use Rattle.std.proofs.lemmas.List.Sums.{sum_by-cons}
 use Rattle.reading.specs.Lines.{lines_of}
 use Rattle.rule_language.specs.Books.{IsBook}
+use Rattle.rule_language.specs.declared.book.Book.{Book}
 use Rattle.rule_language.specs.declared.book.Rule.{Rule}
 use Rattle.rule_language.specs.declared.part.Part.{Part}
 use Rattle.book_operations.specs.Measures.{IsMeasure, rule_amount, measured}
 use Rattle.book_operations.specs.Same.{scaled}
 use Rattle.book_operations.specs.Scripts.{IsDerivedBy, CarriesThrough, KeepsThrough, BeatsIn}
+use Rattle.book_operations.specs.Derivation.{Carries}
+use Rattle.book_operations.specs.Kinds.{IsStep, KeepsAs, CarriesAs}
+use Rattle.book_operations.specs.Measures.{CarriesMeasured}
+use Rattle.book_operations.specs.Tests.{size_of, becomes, once, KeepsPreferencesOf}
+use Rattle.book_operations.specs.declared.kind.Accepted.{Accepted}
+use Rattle.book_operations.specs.declared.kind.Accepted.TheVariants.{Refinement, Aggregation, Augmentation}
 use Rattle.book_operations.proofs.Carried.{derives-measured}
+use Rattle.derived_trajectories.specs.Driven.{CarriesTrajectories, KeepsTrajectories, CarriesDriven}
 use Rattle.violation_measures.specs.Amounts.{part_value, weighted}
 use Rattle.violation_measures.specs.Sources.{Features, at_step}
 use Rattle.violation_measures.specs.Steps.{finish}
@@ -115,3 +123,29 @@ pub kept : (f : Features) (script : List ℕ) (first last : Bound) (steps others
 kept f script first last steps others is derived keeps beats =
     keeps (trajectory_vector f first steps) (trajectory_vector f first others) (trajectory_vector f last steps) (trajectory_vector f last others)
     (carried f script first last steps is derived) (carried f script first last others is derived) beats
+
+-- ---- a child that a test accepts
+
+module _ (parent child : Book) where
+  one-carried : (times : List ℕ → ℕ) → CarriesMeasured parent child times → CarriesTrajectories parent child times
+  one-carried times measures f bound child_bound steps e g =
+      let Over = Carries (size_of parent) (size_of child) (becomes parent child times) in
+      let x = vector-is f bound steps ∙ ap (measured (along f steps)) e in
+      let y = vector-is f child_bound steps ∙ ap (measured (along f steps)) g in
+      subst (λ (v : List ℕ). Over v (trajectory_vector f child_bound steps)) (sym x)
+      (subst (λ (w : List ℕ). Over (measured (along f steps) parent) w) (sym y) (measures (along f steps) (along-measures f steps)))
+
+  pub driven : (kind : Accepted) → CarriesAs parent child kind → CarriesDriven parent child kind
+  driven Refinement h = one-carried once h
+  driven Aggregation h = λ times sum. one-carried times (h times sum)
+  driven Augmentation h = one-carried once h
+
+  one-kept : (times : List ℕ → ℕ) → CarriesTrajectories parent child times → KeepsPreferencesOf parent child times → KeepsTrajectories parent child
+  one-kept times carries keeps f bound child_bound steps others e g beats =
+      keeps (trajectory_vector f bound steps) (trajectory_vector f bound others) (trajectory_vector f child_bound steps) (trajectory_vector f child_bound others)
+      (carries f bound child_bound steps e g) (carries f bound child_bound others e g) beats
+
+  pub driven-kept : (kind : Accepted) → IsStep parent child kind → CarriesAs parent child kind → KeepsAs parent child kind → KeepsTrajectories parent child
+  driven-kept Refinement step carries keeps = one-kept once (one-carried once carries) keeps
+  driven-kept Aggregation step carries keeps = one-kept step.times (one-carried step.times (carries step.times step.sum)) (keeps step.times step.sum)
+  driven-kept Augmentation step carries keeps = one-kept once (one-carried once carries) keeps

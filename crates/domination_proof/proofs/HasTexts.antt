@@ -28,13 +28,13 @@ use Rattle.domination_proof.specs.Copies.{cert_label, cert_of}
 use Rattle.domination_proof.specs.Shown.{IsShown}
 use Rattle.domination_proof.proofs.Copied.{pair_there}
 
--- a number below the limit of labels, as those of labels and choices are
+-- a number below the limit of labels, as those of labels are
 abbrev pub IsLow : ℕ → Type 0
 IsLow n = n < MAX_LABELS
 
 pub record HasLowNumbers (label : CertLabel) : Type 0 where
   pub parent : IsLow label.parent
-  pub choice : IsLow label.choice
+  pub choice : label.choice < MAX_CHOICES
   pub links : All IsLow label.links
 
 low_is_small : (n : ℕ) → IsLow n → IsSmall n
@@ -44,7 +44,7 @@ all_small : (ns : List ℕ) → All IsLow ns → All IsSmall ns
 all_small = All-weaker IsLow IsSmall low_is_small
 
 small_numbers : (label : CertLabel) → HasLowNumbers label → HasSmallNumbers label
-small_numbers label low = record { parent = low_is_small label.parent low.parent; choice = low_is_small label.choice low.choice; links = all_small label.links low.links }
+small_numbers label low = record { parent = low_is_small label.parent low.parent; choice = omega (arith, low.choice); links = all_small label.links low.links }
 
 -- where goal labels with smaller numbers are j, label k is at a goal
 record IsGoalAt {S : Type 0} (g : Graph S) (pairs : List (S × List ℕ)) (j : ℕ) : Type 0 where

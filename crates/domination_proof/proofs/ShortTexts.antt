@@ -36,10 +36,10 @@ spaced_short (n ∷ ns) low =
     let rest = cells_short ns (All-tail IsLow n ns low) in
     omega (arith, digits, rest, length-append (decimal n) (cells ns))
 
-head_short : (label : CertLabel) → HasLowNumbers label → length (head_line label) ≤ 12
+head_short : (label : CertLabel) → HasLowNumbers label → length (head_line label) ≤ 9
 head_short label low =
     let parent = decimal_short label.parent low.parent in
-    let choice = decimal_short label.choice low.choice in
+    let choice = length-decimal-le 2 label.choice (omega arith) (omega (arith, low.choice)) (omega (arith, low.choice)) in
     omega (arith, parent, choice, length-append (decimal label.parent) (cell label.choice), ended_length (decimal label.parent ++ cell label.choice))
 
 links_short : (labels : List CertLabel) → All HasLowNumbers labels → length (flat_map links_line labels) ≤ length labels + 6 * sum_by (λ (label : CertLabel). length label.links) labels
@@ -50,12 +50,12 @@ links_short (l ∷ ls) low =
     let count : sum_by (λ (label : CertLabel). length label.links) (l ∷ ls) ≡ length l.links + sum_by (λ (label : CertLabel). length label.links) ls = sum_by-cons (λ (label : CertLabel). length label.links) l ls in
     omega (arith, count, first, rest, ended_length (spaced l.links), length-append (links_line l) (flat_map links_line ls))
 
-heads_short : (labels : List CertLabel) → All HasLowNumbers labels → length (flat_map head_line labels) ≤ length labels * 12
+heads_short : (labels : List CertLabel) → All HasLowNumbers labels → length (flat_map head_line labels) ≤ length labels * 9
 heads_short labels low =
-    let each = sum_by-le (λ (label : CertLabel). length (head_line label)) 12 labels (All-weaker HasLowNumbers (λ label. length (head_line label) ≤ 12) head_short labels low) in
+    let each = sum_by-le (λ (label : CertLabel). length (head_line label)) 9 labels (All-weaker HasLowNumbers (λ label. length (head_line label) ≤ 9) head_short labels low) in
     omega (arith, each, length-flat_map head_line labels)
 
-later_heads_short : (labels : List CertLabel) → All HasLowNumbers labels → length (flat_map head_line (drop 1 labels)) ≤ length labels * 12
+later_heads_short : (labels : List CertLabel) → All HasLowNumbers labels → length (flat_map head_line (drop 1 labels)) ≤ length labels * 9
 later_heads_short [] low = omega arith
 later_heads_short (l ∷ ls) low = omega (arith, heads_short ls (All-tail HasLowNumbers l ls low))
 
@@ -69,7 +69,7 @@ count_short n few =
     omega (arith, digits, named_length (codes "labels") (n ∷ []), length-append (cell n) [])
 
 labels_short : (labels : List CertLabel) → All HasLowNumbers labels → length labels ≤ MAX_LABELS
-    → length (label_lines labels) ≤ 19 + 13 * length labels + 6 * sum_by (λ (label : CertLabel). length label.links) labels
+    → length (label_lines labels) ≤ 19 + 10 * length labels + 6 * sum_by (λ (label : CertLabel). length label.links) labels
 unfolding label_lines
 labels_short labels low few =
     let heads = flat_map head_line (drop 1 labels) in
@@ -90,7 +90,7 @@ numbers_short name numbers low = omega (arith, named_length name numbers, cells_
 
 -- a certificate's text, by how many numbers it has
 text_length : (cert : Certificate) → HasText cert → All HasLowNumbers cert.labels → All IsLow cert.finals → All IsLow cert.goal_links
-    → length (text cert) ≤ 59 + 13 * length cert.labels + 6 * sum_by (λ (label : CertLabel). length label.links) cert.labels + 6 * length cert.finals + 6 * length cert.goal_links
+    → length (text cert) ≤ 59 + 10 * length cert.labels + 6 * sum_by (λ (label : CertLabel). length label.links) cert.labels + 6 * length cert.finals + 6 * length cert.goal_links
 unfolding text
 text_length cert has labels finals goals =
     let first = ended (codes "rulebook certificate 1") in

@@ -25,7 +25,7 @@ pub const MAX_CHOICES: usize = 32;
 
 /// The most bytes in the text of what is found of at most `MAX_LABELS` labels with at most
 /// `MAX_CHOICES` choices each.
-pub const MAX_TEXT: usize = 10_900_000;
+pub const MAX_TEXT: usize = 10_800_000;
 
 /// Where the clauses of a search hold of what was found, its numbers are a good certificate.
 pub fn found_is_good<G: StepGraph, O: VectorOrder>(graph: &G, order: &O, found: &Found<G::State>)

@@ -1,6 +1,9 @@
 ghost use Rattle.std.specs.Prelude.{◌≡◌, ℕ, ◌<◌, ◌≤◌, List, [], ◌∷◌, length, option_map};
 ghost use Rattle.std.specs.Prelude.{MatchOption, IfSome, IfOk, slice_index};
-ghost use Rattle.std.specs.List.{list_any};
+ghost use Rattle.std.specs.Prelude.{map};
+ghost use Rattle.std.specs.List.{list_any, IsAllAdjacentAnswer};
+ghost use Rattle.std.specs.Ordering.{is_lt, nat_cmp};
+ghost use Rattle.std.specs.Cmp.Lexicographic.{slice_cmp};
 ghost use Rattle.element_tree.specs.Bytes.{is_space, is_start, is_open};
 ghost use Rattle.element_tree.specs.Tags.{name_at, after_byte, value_in, value_at, attribute_at};
 ghost use Rattle.element_tree.specs.Tags.{value_of, are_distinct, is_empty_at, start_tag};
@@ -10,7 +13,6 @@ ghost use Rattle.element_tree.specs.Pieces.{pieces};
 use crate::bytes::{is_quote, is_space, is_start, len_before, name_len, skip_space};
 use preorder::NoMemory;
 use std::alloc::Global;
-use std::collections::BTreeSet;
 
 fn first_is_start(bytes: &[u8]) -> bool
     ensures { result ≡ is_start (slice_index bytes.now 0) }
@@ -113,17 +115,6 @@ fn attribute_at(bytes: &[u8]) -> Option<((&[u8], &[u8]), &[u8])>
     cut_attribute(bytes)
 }
 
-// What stands behind the attributes.
-fn after_attributes(bytes: &[u8]) -> &[u8]
-    ensures { result.now ≡ (pieces attribute_at bytes.now).1 }
-{
-    let mut rest = bytes;
-    while let Some((_, after)) = attribute_at(rest) {
-        rest = after;
-    }
-    rest
-}
-
 // The value of the first attribute of this name.
 #[tactic(auto, unfolding(crate::specs::Tags::value_of))]
 pub fn value_of<'a>(name: &[u8], bytes: &'a [u8]) -> Option<&'a [u8]>
@@ -139,20 +130,38 @@ pub fn value_of<'a>(name: &[u8], bytes: &'a [u8]) -> Option<&'a [u8]>
     None
 }
 
-// Whether no attribute name stands twice.
-#[tactic(auto, using(crate::proofs::Distinct::at_start, crate::proofs::Distinct::goes_on, crate::proofs::Distinct::stops))]
-fn are_distinct(alloc: Global, bytes: &[u8]) -> Result<bool, NoMemory>
-    ensures { IfOk result (λ b. b ≡ are_distinct (pieces attribute_at bytes.now).0) }
+// The names of the attributes, in their order, and what stands behind the attributes.
+fn attribute_names(alloc: Global, bytes: &[u8]) -> Result<(Vec<&[u8]>, &[u8]), NoMemory>
+    ensures { IfOk result (λ x. (map (λ n. n.now) x.0.items
+        ≡ map (λ a. a.0) (pieces attribute_at bytes.now).0)
+        × (x.1.now ≡ (pieces attribute_at bytes.now).1)) }
 {
-    let mut seen = BTreeSet::new(alloc);
+    let mut names = Vec::new(alloc);
     let mut rest = bytes;
     while let Some(((name, _), after)) = attribute_at(rest) {
-        if !seen.insert(name)? {
-            return Ok(false);
-        }
+        names.push(name)?;
         rest = after;
     }
-    Ok(true)
+    Ok((names, rest))
+}
+
+// Whether each name comes before the next.
+fn are_rising(names: &[&[u8]]) -> bool
+    ensures { IsAllAdjacentAnswer (λ x y b. b ≡ is_lt (slice_cmp nat_cmp x.now y.now)) names.now
+        result }
+{
+    names.is_sorted_by(|name, next| name.cmp(next).is_lt())
+}
+
+// Whether no attribute of these names has the name of another: sorted, the same names stand side
+// by side.
+fn are_distinct(mut names: Vec<&[u8]>) -> bool
+    ensures { (attributes : List (List ℕ × List ℕ))
+        → map (λ n. n.now) names.entry.items ≡ map (λ a. a.0) attributes
+        → result ≡ are_distinct attributes }
+{
+    names.sort_unstable();
+    are_rising(names.as_slice())
 }
 
 // The name of a start tag, and whether its element is empty.
@@ -164,10 +173,11 @@ pub fn start_tag(alloc: Global, bytes: &[u8]) -> Result<Option<(&[u8], bool)>, N
     let Some((name, rest)) = name_at(bytes.split_at(1).1) else {
         return Ok(None);
     };
-    let Some(empty) = is_empty_at(after_attributes(rest)) else {
+    let (names, rest) = attribute_names(alloc, rest)?;
+    let Some(empty) = is_empty_at(rest) else {
         return Ok(None);
     };
-    if are_distinct(alloc, rest)? {
+    if are_distinct(names) {
         Ok(Some((name, empty)))
     } else {
         Ok(None)

@@ -1,4 +1,5 @@
 ghost use Rattle.std.specs.Prelude.{◌≡◌, ◌++◌, ◌∷◌, [], ◌≤◌, OnOk, IsTrue};
+ghost use Rattle.std.specs.Prelude.{is_ok, if◌then◌else◌};
 ghost use Rattle.std.specs.Fmt.{signed_decimal, decimal};
 ghost use Rattle.expressions.specs.Written.{written, written_argument, written_feature, nesting};
 ghost use Rattle.expressions.specs.Written.{is_well_formed};
@@ -56,12 +57,11 @@ fn push_behind(
     ensures { OnOk result (out.new.items ≡ out.old.items ++ (before.now ++ written expr.now)) }
 {
     out.extend_from_slice(before)?;
-    push_expr(alloc, out, expr)
+    push_tree(alloc, out, expr)
 }
 
-/// Appends the text that an expression is written as.
 #[cycle(written)]
-pub fn push_expr(alloc: Global, out: &mut Vec<u8>, expr: &Expr) -> Result<(), AllocError>
+fn push_tree(alloc: Global, out: &mut Vec<u8>, expr: &Expr) -> Result<(), AllocError>
     ensures { OnOk result (out.new.items ≡ out.old.items ++ written expr.now) }
 {
     match expr {
@@ -102,6 +102,17 @@ pub fn push_expr(alloc: Global, out: &mut Vec<u8>, expr: &Expr) -> Result<(), Al
     }
     out.push(b')')?;
     Ok(())
+}
+
+/// Appends the text that an expression is written as. Where memory can't be had, nothing is
+/// appended.
+pub fn push_expr(alloc: Global, out: &mut Vec<u8>, expr: &Expr) -> Result<(), AllocError>
+    ensures { out.new.items
+        ≡ (if is_ok result then out.old.items ++ written expr.now else out.old.items) }
+{
+    let mut text = Vec::new(alloc);
+    push_tree(alloc, &mut text, expr)?;
+    out.extend_from_slice(text.as_slice())
 }
 
 /// The written form of an expression that a book may hold is its text.

@@ -1,6 +1,6 @@
 -- What a book says: its rules and its statements on them, or the first fault. This project's own
 -- text for the rulebooks of Censi and others, 2019.
-use Rattle.std.specs.Prelude.{ℕ, ◌≤◌, min, slice_set, slice_index_or, ◌++◌, Bool, true, false, not}
+use Rattle.std.specs.Prelude.{◌≡◌, ℕ, ◌≤◌, min, slice_set, slice_index_or, ◌++◌, Bool, true, false, not}
 use Rattle.std.specs.Prelude.{◌&&◌, List, [], ◌∷◌, length, All, Option, Some, None, Result, Ok, Err}
 use Rattle.std.specs.Prelude.{nat_le, is_some, if◌then◌else◌, codes, IsTrue}
 use Rattle.std.specs.List.{position}
@@ -132,6 +132,15 @@ pair_line n kind a b book =
     if bytes_eq kind (codes "above") then above_line n a b book
     else if bytes_eq kind (codes "same") then same_line n a b book
     else Err (Syntax n)
+
+-- `same A B` half done: the statement (A, B) stands, as after `above A B`
+abbrev pub IsHalfPair : ℕ → List ℕ → List ℕ → List ℕ → Book → Book → Type 0
+IsHalfPair n kind a b old new = IsTrue (bytes_eq kind (codes "same")) × (above_line n a b old ≡ Ok new)
+
+-- of the lines of a book that of two names alone can be left half done
+abbrev pub IsHalfLine : ℕ → List (List ℕ) → Book → Book → Type 0
+IsHalfLine n (kind ∷ a ∷ b ∷ []) old new = IsHalfPair n kind a b old new
+IsHalfLine n words old new = ⊥
 
 -- line n as its words
 unfoldable pub book_words : ℕ → List (List ℕ) → Book → Result Book BookFault

@@ -1,4 +1,4 @@
-ghost use Rattle.std.specs.Prelude.{◌≡◌, ℕ, ◌<◌, List, length, map, IfOk, IfErr, IfSome};
+ghost use Rattle.std.specs.Prelude.{◌≡◌, ℕ, ◌<◌, List, length, map, Ok, IfOk, IfErr, OnErr, IfSome};
 ghost use Rattle.std.specs.Bool.{OnFalse};
 ghost use Rattle.std.specs.Str.{bytes_eq};
 ghost use Rattle.preorder.specs.Preorder.{rules_of, at_least};
@@ -7,7 +7,12 @@ ghost use Rattle.reading.specs.Lines.{lines_of};
 ghost use Rattle.reading.specs.Reading.{Gives, IsFirstFault};
 ghost use Rattle.reading.specs.Words.{number_of};
 ghost use Rattle.expressions.specs.Reading.{expr_of};
-ghost use Rattle.rule_language.specs.Books.{is_memory, is_of_file, place_of, rule_line, named_rule, pair, above_line, same_line, weight_from, or_syntax, part_of, add_part, part_line, pair_line, book_words, book_line, no_lines, book_of, IsBook, AnyBook};
+ghost use Rattle.rule_language.specs.Books.{is_memory, is_of_file, place_of, rule_line, named_rule};
+ghost use Rattle.rule_language.specs.Books.{pair, above_line, same_line, weight_from, or_syntax};
+ghost use Rattle.rule_language.specs.Books.{part_of, add_part, part_line, pair_line, book_words};
+ghost use Rattle.rule_language.specs.Books.{book_line, no_lines, book_of, IsBook, AnyBook};
+ghost use Rattle.rule_language.specs.Books.{IsHalfPair, IsHalfLine};
+ghost use Rattle.rule_language.specs.LineFiles.{Leaves};
 ghost use Rattle.rule_language.specs.declared.book.BookFault.TheVariants as faults;
 
 use crate::limits::{MAX_PARTS, MAX_WEIGHT};
@@ -169,7 +174,8 @@ impl Book {
 
     #[tactic(auto, unfolding(crate::specs::Books::rule_line))]
     fn add_rule(&mut self, alloc: Global, number: usize, name: &[u8]) -> Result<(), BookFault>
-        ensures { Gives is_memory (λ _. self.new) result (rule_line number name.now self.old) }
+        ensures exact { Gives is_memory (λ _. self.new) result (rule_line number name.now self.old) }
+        ensures left { OnErr result (self.new ≡ self.old) }
     {
         let Some(new) = Name::new(name) else {
             return Err(BookFault::Syntax(number));
@@ -190,7 +196,8 @@ impl Book {
     #[tactic(auto, unfolding(crate::specs::Books::add_part))]
     fn add_part(&mut self, number: usize, place: usize, part: Part) -> Result<(), BookFault>
         requires { place < length self.old.rules }
-        ensures { Gives is_memory (λ _. self.new) result (add_part number place part self.old) }
+        ensures exact { Gives is_memory (λ _. self.new) result (add_part number place part self.old) }
+        ensures left { OnErr result (self.new ≡ self.old) }
     {
         if part.weight < 1 || part.weight > MAX_WEIGHT {
             return Err(BookFault::BadWeight(number));
@@ -213,8 +220,9 @@ impl Book {
         weight: &[u8],
         expr: &[&[u8]],
     ) -> Result<(), BookFault>
-        ensures { Gives is_memory (λ _. self.new) result
+        ensures exact { Gives is_memory (λ _. self.new) result
             (part_line number at_end name.now weight.now (map (λ w. w.now) expr.now) self.old) }
+        ensures left { OnErr result (self.new ≡ self.old) }
     {
         let part = part_of(alloc, number, at_end, name, weight, expr)?;
         let place = named_rule(number, self.rules.as_slice(), name)?;
@@ -222,7 +230,8 @@ impl Book {
     }
 
     /// Adds the statements of a line of this kind, `above` or `same`, on the rules of two names.
-    /// `number` is that of the line.
+    /// `number` is that of the line. A refused line leaves the book as it was; where memory ends
+    /// between the two statements of `same`, the first of them stands.
     #[tactic(auto, unfolding(crate::specs::Books::pair_line))]
     pub fn add_pair(
         &mut self,
@@ -231,8 +240,10 @@ impl Book {
         a: &[u8],
         b: &[u8],
     ) -> Result<(), BookFault>
-        ensures { Gives is_memory (λ _. self.new) result
+        ensures exact { Gives is_memory (λ _. self.new) result
             (pair_line number kind.now a.now b.now self.old) }
+        ensures left { IfErr result (Leaves is_memory
+            (IsHalfPair number kind.now a.now b.now self.old) self.old self.new) }
     {
         if kind == b"above".as_slice() {
             self.add_above(number, a, b)
@@ -245,16 +256,19 @@ impl Book {
 
     #[tactic(auto, unfolding(crate::specs::Books::above_line))]
     fn add_above(&mut self, number: usize, a: &[u8], b: &[u8]) -> Result<(), BookFault>
-        ensures { Gives is_memory (λ _. self.new) result (above_line number a.now b.now self.old) }
+        ensures exact { Gives is_memory (λ _. self.new) result (above_line number a.now b.now self.old) }
+        ensures left { OnErr result (self.new ≡ self.old) }
     {
         let pair = pair_of(number, self.rules.as_slice(), a, b)?;
         self.statements.push(pair)?;
         Ok(())
     }
 
-    #[tactic(auto, unfolding(crate::specs::Books::same_line))]
+    #[tactic(auto, unfolding(crate::specs::Books::same_line, crate::specs::Books::above_line))]
     fn add_same(&mut self, number: usize, a: &[u8], b: &[u8]) -> Result<(), BookFault>
-        ensures { Gives is_memory (λ _. self.new) result (same_line number a.now b.now self.old) }
+        ensures exact { Gives is_memory (λ _. self.new) result (same_line number a.now b.now self.old) }
+        ensures left { IfErr result (Leaves is_memory
+            (λ new. above_line number a.now b.now self.old ≡ Ok new) self.old self.new) }
     {
         let (upper, lower) = pair_of(number, self.rules.as_slice(), a, b)?;
         self.statements.push((upper, lower))?;
@@ -273,6 +287,8 @@ impl LineReader for Book {
     ghost is_sound = { AnyBook };
 
     ghost step = { book_words };
+
+    ghost is_half = { IsHalfLine };
 
     fn too_long(number: usize) -> BookFault {
         BookFault::Syntax(number)

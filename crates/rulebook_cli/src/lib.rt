@@ -15,3 +15,4 @@ pub use laws::{
     plans_are_accepted,
 };
 pub use top::run_rulebook;
+pub use words::MAX_DIGITS;

@@ -75,8 +75,8 @@ pub enum Command<'a> {
 pub const HELP: &str =
     "pick BOOK TABLE\ncompare BOOK TABLE\nshow SCENARIO\nwalk SCENARIO BOOK LATTICE LIST\nplan SCENARIO BOOK LATTICE CERT\ncheck SCENARIO BOOK LATTICE CERT\naccept PARENT CHILD\nderive PARENT SCRIPT\njudge SCENARIO BOOK LATTICE RECORDS\nsample N\n--help\n";
 
-// The most digits of the number of a sample scene.
-const MAX_DIGITS: usize = 6;
+/// The most digits of the number of a sample scene, as it is given in words.
+pub const MAX_DIGITS: usize = 6;
 
 /// The one reading of the words. None where they have none.
 pub fn read_words(words: &[String]) -> Option<Command<'_>>

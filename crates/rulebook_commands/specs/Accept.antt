@@ -7,6 +7,7 @@ use Rattle.book_operations.specs.Kinds.{IsOfKind, IsStep, IsStepFault, KeepsAs, 
 use Rattle.book_operations.specs.declared.fault.DeriveFault.{DeriveFault}
 use Rattle.book_operations.specs.declared.kind.Accepted.{Accepted}
 use Rattle.book_operations.specs.declared.kind.Accepted.TheVariants as kind
+use Rattle.derived_trajectories.specs.Driven.{CarriesDriven, KeepsTrajectories}
 use Rattle.command_outcome.specs.declared.outcome.Ending.TheVariants as ending
 use Rattle.command_outcome.specs.declared.outcome.Role.TheVariants as role
 use Rattle.command_outcome.specs.declared.outcome.Status.TheVariants as status
@@ -37,12 +38,15 @@ kind_text kind.Refinement = codes "refinement\n"
 kind_text kind.Aggregation = codes "aggregation\n"
 kind_text kind.Augmentation = codes "augmentation\n"
 
--- the child is a step of its kind, which is named, and keeps the parent's preferences
+-- The child is a step of its kind, which is named, and keeps the parent's preferences: among
+-- vectors, and among trajectories, whose vectors by the child carry those by the parent.
 pub record IsTaken (parent child : Book) (printed : List ℕ) : Type 0 where
   pub kind_is : Accepted
   pub of_kind : IsOfKind parent child kind_is
   pub step : IsStep parent child kind_is
   pub keeps : KeepsAs parent child kind_is
+  pub driven : CarriesDriven parent child kind_is
+  pub keeps_driven : KeepsTrajectories parent child
   pub says : printed ≡ kind_text kind_is
 
 -- the child has this fault by the test of its kind, and its two vectors show a preference that is

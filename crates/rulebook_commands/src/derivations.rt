@@ -11,6 +11,7 @@ ghost use Rattle.rulebook_commands.specs.DeriveFaults.{pair_words, with_commas};
 use book_operations::{Accepted, DeriveFault, accept, apply_script};
 use bound_scene::load_book;
 use command_outcome::{Role, Stop, load_bytes, refuse_at, refuse_named};
+use derived_trajectories::accepted_children_keep_trajectories;
 use outside_io::Store;
 use rule_language::{Book, write_book};
 use std::alloc::{AllocError, Global};
@@ -150,6 +151,7 @@ fn test_child(alloc: Global, parent: &Book, child: &Book) -> Result<Vec<u8>, Sto
     requires child { IsBook child.now }
     ensures { Accepts parent.now child.now result }
 {
+    accepted_children_keep_trajectories();
     match accept(alloc, parent, child) {
         Ok(kind) => Ok(kind_text(kind).as_bytes().to_vec(alloc)?),
         Err(fault) => Err(refuse_step(alloc, Role::Child, &fault)),

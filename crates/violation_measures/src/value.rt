@@ -20,8 +20,9 @@ use crate::step::Step;
 use preorder::Name;
 use rule_language::Argument;
 
-// The most in size that a value on the way may be.
-pub(crate) const MAX_VALUE: u128 = 1_000_000_000_000_000_000;
+/// The most in size that an end of an interval may be, and so any value on the way to that of a part
+/// of a bound book.
+pub const MAX_VALUE: u128 = 1_000_000_000_000_000_000;
 
 // The number where it is small.
 pub(crate) fn cut(value: i128) -> Option<i128>

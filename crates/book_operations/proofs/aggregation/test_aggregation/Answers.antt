@@ -2,6 +2,7 @@ use Rattle.std.specs.Prelude.{List, ℕ}
 use Rattle.std.proofs.lemmas.Result.{err_from_is_err_and, on_ok_weaker, IfErr-weaker}
 use Rattle.book_operations.specs.Aggregation.{MergesRules, DiffersInRules, IsSumBy}
 use Rattle.book_operations.specs.Tests.{IsCounted, ShowsLoss}
+use Rattle.book_operations.proofs.Measured.{merged-measured}
 use Rattle.book_operations.proofs.Merged.{merge-classes, merge-adds_none, sum-counted}
 use Rattle.book_operations.proofs.Refusals.{aggregation-rules, of_read}
 use Rattle.book_operations.proofs.aggregation.test_aggregation.Goals as goal
@@ -20,6 +21,13 @@ keep_pairs-requires-clause-classes c =
     let child = c.args.child.now in
     let merges = of_read (λ rs os. MergesRules rs os) _ _ parent.rules child.rules c.as_slice.ensures c.as_slice-2.ensures c.in_ok-merged.ensures.ok in
     merge-classes parent child c.requires.parent c.requires.child merges c.in_ok-keep_class.ensures.ok
+
+pub returns-clause-carries : goal.returns-clause-carries
+returns-clause-carries c =
+    let parent = c.args.parent.now in
+    let child = c.args.child.now in
+    let merges = of_read (λ rs os. MergesRules rs os) _ _ parent.rules child.rules c.as_slice.ensures c.as_slice-2.ensures c.in_ok-merged.ensures.ok in
+    on_ok_weaker c.keep_pairs.result (λ _ times sum amount measure. merged-measured parent child c.requires.parent c.requires.child merges times sum amount measure) c.keep_pairs.ensures.ok
 
 pub returns-clause-keeps : goal.returns-clause-keeps
 returns-clause-keeps c =

@@ -3,6 +3,7 @@ use Rattle.std.proofs.lemmas.Result.{err_from_is_err_and, on_ok_weaker, IfErr-we
 use Rattle.book_operations.specs.Images.{HasEqual}
 use Rattle.book_operations.specs.Tests.{once, IsAugmentationFault, RaisesAdded}
 use Rattle.book_operations.proofs.Kept.{names-kept, one-class, once-counted, others-lowest}
+use Rattle.book_operations.proofs.Measured.{kept-measured}
 use Rattle.book_operations.proofs.Refusals.{augmentation-lost, augmentation-raised, of_read}
 use Rattle.book_operations.proofs.augmentation.test_augmentation.Goals as goal
 
@@ -35,6 +36,13 @@ returns-clause-accepts c =
     let child = c.args.child.now in
     let kept = of_read (λ rs os. (r : ℕ) → r < length rs → HasEqual rs os r) _ _ parent.rules child.rules c.as_slice.ensures c.as_slice-2.ensures c.in_ok-keep_rules.ensures.ok in
     on_ok_weaker c.keep_lowest.result (λ lowest. record { kept = kept; strict = c.in_ok-keep_pairs.ensures.ok; lowest = lowest }) c.keep_lowest.ensures.ok
+
+pub returns-clause-carries : goal.returns-clause-carries
+returns-clause-carries c =
+    let parent = c.args.parent.now in
+    let child = c.args.child.now in
+    let kept = of_read (λ rs os. (r : ℕ) → r < length rs → HasEqual rs os r) _ _ parent.rules child.rules c.as_slice.ensures c.as_slice-2.ensures c.in_ok-keep_rules.ensures.ok in
+    on_ok_weaker c.keep_lowest.result (λ _ amount _. kept-measured parent child c.requires.parent c.requires.child kept amount) c.keep_lowest.ensures.ok
 
 pub returns-clause-keeps : goal.returns-clause-keeps
 returns-clause-keeps c =

@@ -3,6 +3,7 @@ use Rattle.std.proofs.lemmas.Result.{err_from_is_err_and, on_ok_weaker, IfErr-we
 use Rattle.book_operations.specs.Images.{HasEqual, IsNew, HasNewName}
 use Rattle.book_operations.specs.Tests.{once, IsRefinementFault, LosesPair}
 use Rattle.book_operations.proofs.Kept.{names-kept, none-added, one-class, once-counted}
+use Rattle.book_operations.proofs.Measured.{kept-measured}
 use Rattle.book_operations.proofs.Refusals.{refinement-other, refinement-lost, of_read}
 use Rattle.book_operations.proofs.refinement.test_refinement.Goals as goal
 
@@ -29,6 +30,13 @@ returns-clause-accepts c =
     let kept = of_read (λ rs os. (r : ℕ) → r < length rs → HasEqual rs os r) _ _ parent.rules child.rules c.as_slice.ensures c.as_slice-2.ensures c.in_ok-keep_rules.ensures.ok in
     let no_others = of_read (λ rs os. (r : ℕ) → r < length rs → ¬ IsNew rs os r) _ _ child.rules parent.rules c.as_slice-3.ensures c.as_slice-4.ensures c.in_ok-keep_names.ensures.ok in
     on_ok_weaker c.keep_pairs.result (λ strict. record { kept = kept; no_others = no_others; strict = strict }) c.keep_pairs.ensures.ok
+
+pub returns-clause-carries : goal.returns-clause-carries
+returns-clause-carries c =
+    let parent = c.args.parent.now in
+    let child = c.args.child.now in
+    let kept = of_read (λ rs os. (r : ℕ) → r < length rs → HasEqual rs os r) _ _ parent.rules child.rules c.as_slice.ensures c.as_slice-2.ensures c.in_ok-keep_rules.ensures.ok in
+    on_ok_weaker c.keep_pairs.result (λ _ amount _. kept-measured parent child c.requires.parent c.requires.child kept amount) c.keep_pairs.ensures.ok
 
 pub returns-clause-keeps : goal.returns-clause-keeps
 returns-clause-keeps c =

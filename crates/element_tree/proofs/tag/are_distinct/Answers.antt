@@ -1,10 +1,6 @@
-use Rattle.std.proofs.Common.{ap, sym, ◌∙◌, List, ℕ}
-use Rattle.element_tree.specs.Pieces.{pieces}
-use Rattle.element_tree.specs.Tags.{attribute_at}
-use Rattle.element_tree.proofs.Distinct.{at_end}
+use Rattle.element_tree.proofs.Distinct.{told_by_neighbours}
 use Rattle.element_tree.proofs.tag.are_distinct.Goals as goal
 
 pub returns : goal.returns
-returns c =
-    let rest = c.loop-name.rest.now in
-    sym (at_end c.loop-name.seen.keys (pieces attribute_at rest).0 (ap (λ (p : List (List ℕ × List ℕ) × List ℕ). p.0) c.in_default.ensures.attributes)) ∙ c.loop-name.invariant
+returns c = λ attributes e.
+    told_by_neighbours attributes c.args.names.items c.sort_unstable.new.self.items _ _ e c.sort_unstable.ensures.permutation c.sort_unstable.ensures.sorted c.as_slice.ensures.value c.are_rising.ensures
