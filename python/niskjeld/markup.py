@@ -20,6 +20,7 @@ class Element:
     parent: Element | None
     children: list[Element] = field(default_factory=list)
     text: str = ""
+    cut: bool = False  # something other than its end tag follows the text
 
     def all(self, name: str) -> Iterator[Element]:
         return (child for child in self.children if child.name == name)
@@ -56,6 +57,7 @@ def read_markup(document: bytes) -> Element:
         if not token.group(4):
             end = document.find(b"<", token.end())
             element.text = document[token.end() : end if end >= 0 else len(document)].decode(errors="replace").strip()
+            element.cut = document[end : end + 2] != b"</"
             inside = element
     return top
 

@@ -3,7 +3,6 @@
 from __future__ import annotations
 
 import difflib
-import re
 import tempfile
 from pathlib import Path
 
@@ -11,7 +10,7 @@ from ..book import MOST_BYTES, NAME, Book, Line, lines_of, read_book
 from ..expressions import Feature, NoExpression, features_of
 from ..markup import read_markup
 from ..program import Status, call
-from .told import TOO_LONG, Source, Told
+from .told import TOO_LONG, Source, Told, maneuver_names
 
 PLAIN = ("overlaps", "off_road", "lanes", "wrong_way", "speed", "accel", "turn", "tick", "gap", "headway")
 CALLED = ("in_lanelet", "maneuver")
@@ -182,9 +181,7 @@ def _rule_line(source: Source, book: Book, rule: str, sentence: str) -> Told:
 
 def _known_arguments(source: Source, feature: Feature) -> list[str]:
     if feature.name == "maneuver":
-        text = source.other("lattice").decode(errors="replace")
-        _, _, after = text.partition("[[maneuver]]")
-        return re.findall(r"^\s*name\s*=\s*\"(\w+)\"", after, re.M)
+        return maneuver_names(source.other("lattice"))
     top = read_markup(source.other("scenario"))
     return [element.attributes.get("id", "") for root in top.children for element in root.all("lanelet")]
 
@@ -216,7 +213,7 @@ def _unknown_feature(source: Source, book: Book, rule: str) -> Told:
             continue
         for feature in features:
             if not _is_known(source, feature):
-                said = f"`{rule}` measures `{feature}`, which there is not{_hint(source, feature)}"
+                said = f"`{rule}` measures `{feature}`, which there isn't{_hint(source, feature)}"
                 return source.in_line(part.line, said, part.at + feature.at + 1, len(str(feature)))
     return _rule_line(source, book, rule, f"a part of `{rule}` measures what there is not")
 
@@ -261,7 +258,9 @@ def tell_test(source: Source, fault: str, about: tuple[str, ...]) -> Told | None
         number = _refused_line(source)
         return source.in_line(number, said) if number else source.whole(said)
     book = read_book(source.content.decode(errors="replace"))
-    return _rule_line(source, book, next((name for name in about if name in book.lines), ""), said)
+    parent = read_book(source.other("parent").decode(errors="replace"))
+    new = [rule for rule in book.rules if rule not in parent.rules]
+    return _rule_line(source, book, next((name for name in (*about, *new, *book.rules) if name in book.lines), ""), said)
 
 
 def _refused_line(source: Source) -> int | None:

@@ -188,7 +188,8 @@ def _no_start(lattice: _Lattice, source: Source) -> Told:
     from .starts import start_speed
 
     ahead = [table for table in lattice.tables("class") if table.get("heading") == 0]
-    speeds = ", ".join(f"{table['speed'] / 1000:g}" for table in ahead if isinstance(table.get("speed"), int))
+    known = sorted({table["speed"] for table in ahead if isinstance(table.get("speed"), int)})
+    speeds = ", ".join(f"{speed / 1000:g}" for speed in known[:12]) + (" .." if len(known) > 12 else "")
     start = start_speed(source.other("scenario"))
     tolerance = lattice.value.get("tolerance")
     within = f" within {tolerance / 1000:g} m/s" if isinstance(tolerance, int) else ""
@@ -233,4 +234,7 @@ def _markup(source: Source) -> Told:
             return source.in_line(int(found[1]), f"no TOML: {said[: found.start()].lower()}", int(found[2]))
         lines = source.content.count(b"\n") + 1
         return source.in_line(lines, f"no TOML: {said.removesuffix(' (at end of document)').lower()}")
+    for found in re.finditer(rb"\d{19,}", source.content):
+        if int(found.group()) > 2**63 - 1:
+            return source.at_byte(found.start(), "no TOML: this number passes 64 bits", len(found.group()))
     return source.whole("no TOML document as the program reads it")

@@ -10,7 +10,7 @@ import re
 from ..book import NAME, Line, lines_of, read_book
 from ..place import Place
 from .books import _utf8
-from .told import TOO_LONG, Source, Told, ordinal
+from .told import TOO_LONG, Source, Told, maneuver_names, ordinal
 
 COLUMNS = ("name", "tick", "x", "y", "heading", "speed", "accel", "turn", "maneuver")
 _LIMITS = {
@@ -119,11 +119,6 @@ def _bad_field(rows: _Rows, number: int) -> Told:
     return rows.at(number, None, "one of the numbers of the row is none, or out of its limits")
 
 
-def _names_of_maneuvers(source: Source) -> list[str]:
-    _, _, after = source.other("lattice").decode(errors="replace").partition("[[maneuver]]")
-    return re.findall(r"^\s*name\s*=\s*\"(\w+)\"", after, re.M)
-
-
 def tell_records(source: Source, fault: str, about: tuple[str, ...]) -> Told | None:
     rows = _Rows(source)
     number = int(about[0]) if about and about[0].isdigit() else 0
@@ -142,7 +137,7 @@ def tell_records(source: Source, fault: str, about: tuple[str, ...]) -> Told | N
             return _bad_field(rows, number)
         case "unknown-maneuver":
             wanted = fields[8] if len(fields) == 9 else ""
-            near = difflib.get_close_matches(wanted, _names_of_maneuvers(source), 1)
+            near = difflib.get_close_matches(wanted, maneuver_names(source.other("lattice")), 1)
             hint = f"; is it `{near[0]}`?" if near else "; leave the field empty where none was driven"
             return rows.at(number, 8, f"the lattice has no maneuver `{wanted}`{hint}")
         case "tick-gap":
@@ -222,7 +217,7 @@ def tell_list(source: Source, fault: str, about: tuple[str, ...]) -> Told | None
     names = word.split(",")
     name = names[number - 1] if number <= len(names) else ""
     before = names[number - 2] if number > 1 else None
-    known = _names_of_maneuvers(source)
+    known = maneuver_names(source.other("lattice"))
     near = difflib.get_close_matches(name, known, 1)
     where = f"after `{before}`" if before else "from the start"
     why = "its class or the horizon does not allow it" if name in known else "the lattice has no such maneuver"

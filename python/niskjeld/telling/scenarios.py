@@ -90,9 +90,10 @@ def _bad_number(source: Source, at: int) -> Told:
         if name in element.attributes or (name == "id" and any(element.name in group for group in _GROUPS.values())):
             value = element.attributes.get(name, "")
             return _tag(source, element, f"the {name} of <{element.name}> is `{value}`, and has to be 1 to 18 digits")
+    if element.cut:
+        return _tag(source, element, f"a comment or an element stands in <{element.name}>, where the number has to be alone")
     if not element.text:
-        after = "a comment or an element stands before the number, or there is none"
-        return _tag(source, element, f"<{element.name}> has no number: {after}")
+        return _tag(source, element, f"<{element.name}> is empty, and a number is wanted")
     if _DECIMAL.fullmatch(element.text):
         return _tag(source, element, f"`{element.text}` is out of the range of <{element.name}>")
     return _tag(source, element, f"`{element.text[:40]}` in <{element.name}> is no number: digits, a point and an exponent, with no unit")

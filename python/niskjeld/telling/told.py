@@ -2,6 +2,7 @@
 
 from __future__ import annotations
 
+import tomllib
 from dataclasses import dataclass
 from functools import cached_property
 from pathlib import Path
@@ -63,3 +64,12 @@ def ordinal(text: str | int) -> str:
     value = int(text)
     ending = "th" if 10 <= value % 100 <= 20 else {1: "st", 2: "nd", 3: "rd"}.get(value % 10, "th")
     return f"{value}{ending}"
+
+
+def maneuver_names(lattice: bytes) -> list[str]:
+    """The names of the maneuvers of a lattice's file; none where it is no document."""
+    try:
+        maneuvers = tomllib.loads(lattice.decode()).get("maneuver", [])
+    except (UnicodeDecodeError, tomllib.TOMLDecodeError):
+        return []
+    return [one["name"] for one in maneuvers if isinstance(one, dict) and isinstance(one.get("name"), str)]
