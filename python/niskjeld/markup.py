@@ -21,6 +21,7 @@ class Element:
     children: list[Element] = field(default_factory=list)
     text: str = ""
     cut: bool = False  # something other than its end tag follows the text
+    end: int = 0  # the place behind its last byte; 0 where it has no end
 
     def all(self, name: str) -> Iterator[Element]:
         return (child for child in self.children if child.name == name)
@@ -50,11 +51,14 @@ def read_markup(document: bytes) -> Element:
             continue
         if token.group(1):
             if inside.parent is not None:
+                inside.end = token.end()
                 inside = inside.parent
             continue
         element = Element(name.decode(errors="replace"), token.start(), _attributes(token.group(3)), inside)
         inside.children.append(element)
-        if not token.group(4):
+        if token.group(4):
+            element.end = token.end()
+        else:
             end = document.find(b"<", token.end())
             element.text = document[token.end() : end if end >= 0 else len(document)].decode(errors="replace").strip()
             element.cut = document[end : end + 2] != b"</"
