@@ -106,6 +106,16 @@ class Drawing(unittest.TestCase):
         self.assertIn('<b id="tick">tick 6 of 16</b>', done.stdout)
         self.assertIn(">20000 of 40000<", done.stdout)
 
+    def test_a_scene_far_from_the_origin_is_moved_to_it(self):
+        # at 5,334 km single precision is half a metre; the origin is a whole number of ten metres near the start
+        with tempfile.TemporaryDirectory() as folder:
+            scenario = Path(folder) / "far.xml"
+            text = SCENE.with_suffix(".xml").read_text()
+            scenario.write_text(re.sub(r"<x>(-?\d+)</x>", lambda found: f"<x>{int(found[1]) + 5334212}.25</x>", text))
+            done = draw(scenario, SCENE.with_suffix(".lattice"), SCENE.with_suffix(".plan"))
+        scene = json.loads(re.search(r'id="scene">(.*?)</script>', done.stdout, re.S).group(1))
+        self.assertEqual((scene["origin"], scene["drives"][0]["path"]), ([5334210, 0], [[2.25, 0], [12.25, 4]]))
+
     def test_faults_are_told_in_one_line(self):
         book = SCENE.with_suffix(".book")
         for words, said in [

@@ -19,6 +19,7 @@ from .curves import Added
 METRE = 10_000
 LETTERS = "ABCDEFGHIJKLMNOPQRSTUVWXYZ"
 MOST_DRIVES = len(LETTERS)
+FAR = 1000  # metres: a start that is farther from the origin moves it
 NEAR = 30  # metres: so far from what is driven are obstacles and goals shown
 # Colours that colour-blind people tell apart (Okabe and Ito), each with a dash of its own for print in black and white.
 STROKES = [("#0072b2", ""), ("#d55e00", "9 4"), ("#009e73", "3 3"), ("#cc79a7", "12 3 3 3"), ("#56b4e9", "6 6"), ("#e69f00", "1 4")]
@@ -81,19 +82,30 @@ def read_printed(path: str | os.PathLike[str], lattice: Lattice, problem: Proble
     return Printed(list(judged.rules), drives, True, verdicts)
 
 
-def _metres(corners: list[Point]) -> list[list[float]]:
-    return [[round(x / METRE, 3), round(y / METRE, 3)] for x, y in corners]
+@dataclass(frozen=True)
+class Frame:
+    """Metres from an origin near what is shown: browsers draw in single precision, which is half a metre at 5,000 km."""
+
+    x: int
+    y: int
+
+    @classmethod
+    def near(cls, point: Point) -> Frame:
+        far = max(abs(point[0]), abs(point[1])) > FAR * METRE
+        return cls(*(round(one, -5) for one in point)) if far else cls(0, 0)
+
+    def metres(self, corners: list[Point]) -> list[list[float]]:
+        return [[round((x - self.x) / METRE, 3), round((y - self.y) / METRE, 3)] for x, y in corners]
+
+    def corners(self, corners: list[Point]) -> list[list[float]]:
+        """A rectangle from its front right corner on."""
+        return self.metres(corners[1:] + corners[:1] if len(corners) == 4 else corners)
 
 
-def _corners(corners: list[Point]) -> list[list[float]]:
-    """A rectangle from its front right corner on."""
-    return _metres(corners[1:] + corners[:1] if len(corners) == 4 else corners)
-
-
-def _drives(printed: Printed, lattice: Lattice, first: int) -> list[dict[str, Any]]:
+def _drives(printed: Printed, lattice: Lattice, first: int, frame: Frame) -> list[dict[str, Any]]:
     drives = []
     for letter, one in zip(LETTERS, printed.drives):
-        bodies = [_corners(rectangle(step.state.point, step.state.heading, lattice.length, lattice.width)) for step in one.steps]
+        bodies = [frame.corners(rectangle(step.state.point, step.state.heading, lattice.length, lattice.width)) for step in one.steps]
         drives.append({
             "letter": letter,
             "stroke": STROKES[len(drives) % len(STROKES)],
@@ -102,21 +114,21 @@ def _drives(printed: Printed, lattice: Lattice, first: int) -> list[dict[str, An
             "layer": one.layer,
             "begin": one.steps[0].state.tick - first,
             "bodies": bodies,
-            "path": _metres([step.state.point for step in one.steps]),
+            "path": frame.metres([step.state.point for step in one.steps]),
             "added": one.added.sums if one.added else None,
             "speeds": [round((step.state.speed or 0) / 1000, 2) for step in one.steps],
         })
     return drives
 
 
-def _places(obstacle: Obstacle, first: int, last: int) -> list[list[list[list[float]]]]:
+def _places(obstacle: Obstacle, first: int, last: int, frame: Frame) -> list[list[list[list[float]]]]:
     states: dict[int, State] = {}
     for state in obstacle.states:
         states.setdefault(state.tick, state)
     places = []
     for tick in range(first, first + last + 1):
         state = states.get(tick) if obstacle.moving else obstacle.states[0]
-        places.append([] if state is None else [_corners(shape.placed(state.point, state.heading)) for shape in obstacle.shapes])
+        places.append([] if state is None else [frame.corners(shape.placed(state.point, state.heading)) for shape in obstacle.shapes])
     return places
 
 
@@ -124,7 +136,8 @@ def scene_of(scenario: Scenario, lattice: Lattice, printed: Printed) -> dict[str
     problem = scenario.problems[0]
     driven = printed.drives[:MOST_DRIVES]
     first = min([one.steps[0].state.tick for one in driven], default=problem.start.tick)
-    drives = _drives(printed, lattice, first)
+    frame = Frame.near(problem.start.point)
+    drives = _drives(printed, lattice, first, frame)
     last = max([one["begin"] + len(one["path"]) - 1 for one in drives], default=0)
     scene = {
         "first": first,
@@ -132,9 +145,10 @@ def scene_of(scenario: Scenario, lattice: Lattice, printed: Printed) -> dict[str
         "step": scenario.seconds,
         "rules": printed.rules,
         "judged": printed.judged,
-        "lanelets": [{"id": one.id, "corners": _metres(one.corners)} for one in scenario.lanelets.values()],
-        "goals": [_corners(region) for goal in problem.goals for region in goal.regions or []],
-        "obstacles": [{"id": one.id, "moving": one.moving, "places": _places(one, first, last)} for one in scenario.obstacles],
+        "origin": [frame.x / METRE, frame.y / METRE],
+        "lanelets": [{"id": one.id, "corners": frame.metres(one.corners)} for one in scenario.lanelets.values()],
+        "goals": [frame.corners(region) for goal in problem.goals for region in goal.regions or []],
+        "obstacles": [{"id": one.id, "moving": one.moving, "places": _places(one, first, last, frame)} for one in scenario.obstacles],
         "drives": drives,
     }
     scene["view"] = _view(scene)
