@@ -92,6 +92,10 @@ class Drawing(unittest.TestCase):
         self.assertIn("<code>stays goes_at_once first collision</code>", text)
         self.assertEqual(len(scene["drives"][0]["path"]), 17)
 
+    def test_the_page_of_the_city_is_what_is_drawn(self):
+        city = [TOP / "examples" / "city" / f"city.{ending}" for ending in ("xml", "lattice", "plan", "book", "html")]
+        self.assertEqual(draw(*city[:3], "--book", city[3]).stdout, city[4].read_text())
+
     @unittest.skipUnless(shutil.which("chromium"), "there is no chromium")
     def test_a_browser_plays_it_without_a_mouse(self):
         text, _ = self.road(ROAD / "narrow_road.plan", "--book", ROAD / "narrow_road.book")

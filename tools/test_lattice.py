@@ -121,6 +121,10 @@ class Making(unittest.TestCase):
         self.assertIn("no list of maneuvers reaches the goal", done.stderr)
         self.assertIn("NO goal is reached", (self.folder / "s.lattice").read_text())
 
+    def test_the_lattice_of_the_city_is_what_is_made(self):
+        city = TOP / "examples" / "city" / "city"
+        self.assertEqual(lattice(city.with_suffix(".xml")).stdout, city.with_suffix(".lattice").read_text())
+
     def test_faults_are_told_in_one_line(self):
         (self.folder / "s.xml").write_text(bend("fast", GOAL))
         for words, said in (
