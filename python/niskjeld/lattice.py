@@ -52,8 +52,12 @@ class Lattice:
     def start_class(self, problem: Problem) -> Class | None:
         """The class with heading 0 whose speed is nearest to the problem's and within the tolerance; the first on a tie."""
         speed = problem.start.speed or 0
-        near = [one for one in self.classes if one.heading == 0 and abs(one.speed - speed) <= self.tolerance]
-        return min(near, key=lambda one: abs(one.speed - speed), default=None)
+
+        def away(one: Class) -> int:
+            return abs(one.speed - speed)
+
+        near = [one for one in self.classes if one.heading == 0 and away(one) <= self.tolerance]
+        return min(near, key=away) if near else None
 
 
 @dataclass(frozen=True)
@@ -152,19 +156,26 @@ def drive(lattice: Lattice, problem: Problem, names: list[str] | tuple[str, ...]
     return steps
 
 
+def _step(told: list[int]) -> Step:
+    forward, left, heading, speed, accel, turn = told
+    return forward, left, heading, speed, accel, turn
+
+
 def read_lattice(path: str | os.PathLike[str]) -> Lattice:
     """The lattice of a file that the program reads. Raises `Fault` where a key that is needed is missing."""
     try:
         told = tomllib.loads(Path(path).read_bytes().decode())
         classes = [Class(one["name"], one["heading"], one["speed"]) for one in told["class"]]
         maneuvers = [
-            Maneuver(one["name"], one["from"], one["to"], tuple(tuple(step) for step in one["steps"])) for one in told["maneuver"]
+            Maneuver(one["name"], one["from"], one["to"], tuple(_step(step) for step in one["steps"])) for one in told["maneuver"]
         ]
         return Lattice(told["horizon"], told["length"], told["width"], told["tolerance"], classes, maneuvers)
     except (tomllib.TOMLDecodeError, UnicodeDecodeError) as fault:
         raise Fault(f"{os.fspath(path)}: {fault}") from None
-    except (KeyError, TypeError) as fault:
+    except KeyError as fault:
         raise Fault(f"{os.fspath(path)}: no {fault}") from None
+    except (TypeError, ValueError):
+        raise Fault(f"{os.fspath(path)}: not written as a lattice; tools/explain walk .. says where") from None
 
 
 def written(lattice: Lattice, comment: str = "") -> Iterator[str]:
@@ -172,8 +183,8 @@ def written(lattice: Lattice, comment: str = "") -> Iterator[str]:
     yield from (f"# {line}".rstrip() for line in comment.splitlines())
     for key in ("horizon", "length", "width", "tolerance"):
         yield f"{key} = {getattr(lattice, key)}"
-    for one in lattice.classes:
-        yield from ("", "[[class]]", f'name = "{one.name}"', f"heading = {one.heading}", f"speed = {one.speed}")
+    for known in lattice.classes:
+        yield from ("", "[[class]]", f'name = "{known.name}"', f"heading = {known.heading}", f"speed = {known.speed}")
     for one in lattice.maneuvers:
         yield from ("", "[[maneuver]]", f'name = "{one.name}"', f'from = "{one.begins}"', f'to = "{one.ends}"', "steps = [")
         yield from (f"  {list(step)}," for step in one.steps)

@@ -45,7 +45,8 @@ class Grain:
     def __str__(self) -> str:
         wide = ", turns of one duration" if not self.wide else ""
         nudges = ", no shifts inside a lane" if not self.nudges else ""
-        return f"maneuvers of {self.seconds:g} s, speeds about {self.speeds:g} m/s apart, headings at most {self.degrees:g} degrees{wide}{nudges}"
+        apart = f"speeds about {self.speeds:g} m/s apart, headings at most {self.degrees:g} degrees"
+        return f"maneuvers of {self.seconds:g} s, {apart}{wide}{nudges}"
 
 
 # From fine to coarse; the first is taken whose states are few enough and with which a goal is reached.
@@ -362,7 +363,9 @@ def _finest_first(horizons: list[int], grains: tuple[Grain, ...]) -> list[tuple[
     return [(horizon, grain) for (_, horizon), (_, grain) in sorted(pairs, key=lambda pair: 2 * pair[0][0] + pair[1][0])]
 
 
-def make(scenario: Scenario, problem: Problem, car: Car = Car(), most_states: int = MOST_STATES, grains: tuple[Grain, ...] = GRAINS) -> Made:
+def make(
+    scenario: Scenario, problem: Problem, car: Car = Car(), most_states: int = MOST_STATES, grains: tuple[Grain, ...] = GRAINS
+) -> Made:
     """The finest lattice that reaches a goal and has few enough states; else the finest with few enough states."""
     if not problem.goals:
         raise Fault("the problem has no goal")
@@ -412,7 +415,8 @@ def comment_of(made: Made, scenario: Scenario, problem: Problem, name: str) -> s
         f"Grain: {made.grain}.",
         f"Headings from the start's, degrees: {headings}.",
         f"Speeds, m/s: {speeds}; the start's is {(problem.start.speed or 0) / 1000:g}.",
-        f"A maneuver takes {made.ticks} ticks or a multiple. Goal: ticks {made.goal.ticks.low} to {made.goal.ticks.high}, start: tick {problem.start.tick}.",
+        f"A maneuver takes {made.ticks} ticks or a multiple. "
+        f"Goal: ticks {made.goal.ticks.low} to {made.goal.ticks.high}, start: tick {problem.start.tick}.",
         f"{len(lattice.classes)} classes, {len(lattice.maneuvers)} maneuvers, {made.states:,} states within the horizon; {reach}.",
     ]
     return "\n".join(lines)

@@ -9,8 +9,10 @@ from .lattice import Class, Lattice, Maneuver
 
 METRE = 10_000
 COLOURS = ("#0072b2", "#d55e00", "#009e73", "#cc79a7", "#e69f00", "#56b4e9")
-STYLE = """body{font:15px sans-serif;margin:1em;color:#111;background:#fff}section{display:inline-block;vertical-align:top;margin:0 1em 1em 0}
-svg{width:min(92vw,420px);height:min(92vw,420px);border:1px solid #444;background:#fafafa}polyline{fill:none;stroke-width:2;vector-effect:non-scaling-stroke}
+STYLE = """body{font:15px sans-serif;margin:1em;color:#111;background:#fff}
+section{display:inline-block;vertical-align:top;margin:0 1em 1em 0}
+svg{width:min(92vw,420px);height:min(92vw,420px);border:1px solid #444;background:#fafafa}
+polyline{fill:none;stroke-width:2;vector-effect:non-scaling-stroke}
 circle{stroke:none}table{border-collapse:collapse}td,th{border:1px solid #888;padding:.1em .5em;text-align:right}h2{font-size:1.1em}"""
 
 
@@ -46,7 +48,8 @@ def _picture(lattice: Lattice, heading: int) -> str:
 
 def _row(lattice: Lattice, one: Class) -> str:
     number = sum(maneuver.begins == one.name for maneuver in lattice.maneuvers)
-    return f"<tr><td>{html.escape(one.name)}</td><td>{math.degrees(one.heading / 1e6):.1f}</td><td>{one.speed / 1000:g}</td><td>{number}</td></tr>"
+    cells = (html.escape(one.name), f"{math.degrees(one.heading / 1e6):.1f}", f"{one.speed / 1000:g}", str(number))
+    return f"<tr>{''.join(f'<td>{cell}</td>' for cell in cells)}</tr>"
 
 
 def page_of(lattice: Lattice, title: str) -> str:
@@ -55,6 +58,7 @@ def page_of(lattice: Lattice, title: str) -> str:
     return (
         f'<!DOCTYPE html>\n<html lang="en"><head><meta charset="utf-8"><meta name="viewport" content="width=device-width">'
         f"<title>{html.escape(title)}: maneuvers</title><style>{STYLE}</style></head><body><h1>{html.escape(title)}: maneuvers</h1>"
-        f"<p>Forward is to the right, left is up. A colour is the speed at which a maneuver begins; a line's name shows under the pointer.</p>"
+        "<p>Forward is to the right, left is up. A colour is the speed at which a maneuver begins; "
+        "a line's name shows under the pointer.</p>"
         f"{pictures}<table><tr><th>class</th><th>degrees</th><th>m/s</th><th>maneuvers</th></tr>{rows}</table></body></html>\n"
     )

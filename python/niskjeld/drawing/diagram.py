@@ -39,7 +39,8 @@ def diagram(book: Book) -> str:
         lines.append('<line x1="{:.1f}" y1="{:.1f}" x2="{:.1f}" y2="{:.1f}"/>'.format(*ends))
     boxes = "".join(_box(ranks[k], *places[k], *sizes[k]) for k in range(len(ranks)))
     height = top - RISE + 1
-    said = "; ".join(f"{', '.join(ranks[one])} above {', '.join(ranks[other])}" for one, other in book.covers()) or "no rule is above another"
+    pairs = [f"{', '.join(ranks[one])} above {', '.join(ranks[other])}" for one, other in book.covers()]
+    said = "; ".join(pairs) or "no rule is above another"
     return (
         f'<svg class="order" role="img" aria-label="{html.escape(said)}" viewBox="0 0 {width:.1f} {height:.1f}" '
         f'style="max-width:{width:.0f}px">{"".join(lines)}{boxes}</svg>'

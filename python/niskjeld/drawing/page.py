@@ -66,7 +66,8 @@ def curves(scene: dict[str, Any]) -> str:
 def order(book: Book | None) -> str:
     if book is None:
         return ""
-    return f"<section><h2>Which rule is above which</h2>{diagram(book)}<p>A line leads down from a rule to one below it. Rules in one box are of one rank.</p></section>"
+    note = "A line leads down from a rule to one below it. Rules in one box are of one rank."
+    return f"<section><h2>Which rule is above which</h2>{diagram(book)}<p>{note}</p></section>"
 
 
 def verdicts(lines: list[str]) -> str:
@@ -80,14 +81,18 @@ def page(scene: dict[str, Any], title: str, book: Book | None = None, pairs: lis
     x, y, width, height = scene["view"]
     data = json.dumps(scene, separators=(",", ":")).replace("</", "<\\/")
     style, script = ((HERE / name).read_text(encoding="utf-8") for name in ("page.css", "page.js"))
-    parts = curves(scene) + order(book)
+    parts, last = curves(scene) + order(book), scene["last"]
+    what = "recording" if scene["judged"] else "answer"
+    box = f"{x:.3f} {-y - height:.3f} {width:.3f} {height:.3f}"
     return f"""<!DOCTYPE html>
-<html lang="en"><head><meta charset="utf-8"><meta name="viewport" content="width=device-width"><title>{html.escape(title)}</title><style>{style}</style></head><body>
+<html lang="en"><head><meta charset="utf-8"><meta name="viewport" content="width=device-width">
+<title>{html.escape(title)}</title><style>{style}</style></head><body>
 <h1>{html.escape(title)}</h1>
-<svg viewBox="{x:.3f} {-y - height:.3f} {width:.3f} {height:.3f}" id="map" role="img" aria-label="the scene at the tick of the slider">{HATCH}</svg>
-<div class="controls"><button id="play" type="button">Play</button><input type="range" id="slider" min="0" max="{scene['last']}" value="{scene['last']}" aria-label="tick"> <b id="tick"></b></div>
+<svg viewBox="{box}" id="map" role="img" aria-label="the scene at the tick of the slider">{HATCH}</svg>
+<div class="controls"><button id="play" type="button">Play</button>
+<input type="range" id="slider" min="0" max="{last}" value="{last}" aria-label="tick"> <b id="tick"></b></div>
 {legend(scene)}
-<p>Hatched: obstacles, with their ids. Dotted: the goal's regions. A letter is the vehicle along that {'recording' if scene['judged'] else 'answer'}.</p>
+<p>Hatched: obstacles, with their ids. Dotted: the goal's regions. A letter is the vehicle along that {what}.</p>
 {verdicts(pairs or [])}
 <div class="parts">{parts}</div>
 <script type="application/json" id="scene">{data}</script><script>{script}</script></body></html>

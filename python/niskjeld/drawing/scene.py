@@ -54,10 +54,10 @@ def _steps_of_records(path: Path) -> dict[str, list[Driven]]:
             if len(row) != 9:
                 raise Fault(f"{path}: a row has not nine fields")
             try:
-                numbers = [whole(one, places) for one, places in zip(row[1:8], (0, 4, 4, 6, 3, 3, 6))]
+                tick, x, y, heading, speed, accel, turn = (whole(one, places) for one, places in zip(row[1:8], (0, 4, 4, 6, 3, 3, 6)))
             except Fault as fault:
                 raise Fault(f"{path}: {fault}") from None
-            found.setdefault(row[0], []).append(Driven(State(*numbers[:5]), *numbers[5:], row[8]))
+            found.setdefault(row[0], []).append(Driven(State(tick, x, y, heading, speed), accel, turn, row[8]))
     return found
 
 
@@ -103,7 +103,7 @@ class Frame:
 
 
 def _drives(printed: Printed, lattice: Lattice, first: int, frame: Frame) -> list[dict[str, Any]]:
-    drives = []
+    drives: list[dict[str, Any]] = []
     for letter, one in zip(LETTERS, printed.drives):
         bodies = [frame.corners(rectangle(step.state.point, step.state.heading, lattice.length, lattice.width)) for step in one.steps]
         drives.append({
@@ -127,8 +127,8 @@ def _places(obstacle: Obstacle, first: int, last: int, frame: Frame) -> list[lis
         states.setdefault(state.tick, state)
     places = []
     for tick in range(first, first + last + 1):
-        state = states.get(tick) if obstacle.moving else obstacle.states[0]
-        places.append([] if state is None else [frame.corners(shape.placed(state.point, state.heading)) for shape in obstacle.shapes])
+        here = states.get(tick) if obstacle.moving else obstacle.states[0]
+        places.append([] if here is None else [frame.corners(shape.placed(here.point, here.heading)) for shape in obstacle.shapes])
     return places
 
 
@@ -181,7 +181,7 @@ def _cut(scene: dict[str, Any]) -> dict[str, Any]:
         if not points:
             return False
         left, low, right, high = _box(points)
-        return left <= x + width and right >= x and low <= y + height and high >= y
+        return bool(left <= x + width and right >= x and low <= y + height and high >= y)
 
     scene["lanelets"] = [one for one in scene["lanelets"] if shown(one["corners"])]
     scene["obstacles"] = [one for one in scene["obstacles"] if shown([p for places in one["places"] for s in places for p in s])]

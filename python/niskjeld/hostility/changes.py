@@ -9,7 +9,8 @@ from typing import Callable
 Change = Callable[[bytes, random.Random], bytes]
 # Bytes that mean something in one of the formats, or are no text.
 TELLING = b"<>/\"'=#,.-+eE()[]{} \t\r\n\x00\xff\xc3\xa9_09Zz"
-NUMBERS = [b"0", b"-1", b"1e18", b"-1e9", b"1e-400", b"9" * 19, b"9" * 65, b"0.00005", b"18446744073709551616", b"+.5", b"1e400", b"00", b"5."]
+NUMBERS = [b"0", b"-1", b"1e18", b"-1e9", b"1e-400", b"1e400", b"9" * 19, b"9" * 65, b"18446744073709551616"]
+NUMBERS += [b"0.00005", b"+.5", b"00", b"5."]
 
 
 def a_byte(text: bytes, dice: random.Random) -> bytes:

@@ -7,7 +7,7 @@ import resource
 import subprocess
 import tempfile
 from pathlib import Path
-from typing import Callable
+from typing import Any, Callable
 
 from ..program import TOP, Status
 from .outcomes import wrong_with
@@ -37,8 +37,9 @@ def _memory(most: int) -> Callable[[], None]:
 
 
 def _done(program: Path, words: tuple[str, ...], folder: Path, **how: object) -> subprocess.CompletedProcess[bytes]:
-    how = {"stdout": subprocess.PIPE, "stderr": subprocess.PIPE, "stdin": subprocess.DEVNULL, "timeout": 20, **how}
-    return subprocess.run([program, *words], cwd=folder, check=False, **how)  # type: ignore[call-overload]
+    given: dict[str, Any] = {"stdout": subprocess.PIPE, "stderr": subprocess.PIPE, "stdin": subprocess.DEVNULL, "timeout": 20, **how}
+    done: subprocess.CompletedProcess[bytes] = subprocess.run([program, *words], cwd=folder, check=False, **given)
+    return done
 
 
 def little_memory(program: Path, folder: Path, told: list[str]) -> int:

@@ -29,7 +29,8 @@ _DONE: dict[str, str] = {
     "compare": r"(\w+ \w+ (equal|first \w+|second \w+|neither \w+ \w+)\n)*",
     "accept": r"(refinement|aggregation|augmentation)\n",
     "derive": r"(rule \w+\n((part|final) \w+ \d+ [^\n]+\n)*)+(above \w+ \w+\n)*",
-    "show": r"version (2020a|2018b)\nstep \d+\nlanelets \d+\n(lanelet [^\n]+\n)*obstacles \d+\n(obstacle [^\n]+\n)*problems \d+\n(problem [^\n]+\n)+",
+    "show": r"version (2020a|2018b)\nstep \d+\nlanelets \d+\n(lanelet [^\n]+\n)*"
+    r"obstacles \d+\n(obstacle [^\n]+\n)*problems \d+\n(problem [^\n]+\n)+",
 }
 
 

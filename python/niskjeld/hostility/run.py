@@ -106,7 +106,8 @@ def try_one(programs: list[Path], against: Path | None, trial: Trial, found: Fou
         found.slowest = max(found.slowest, end.seconds)
         wrong = wrong_end(trial, end)
         if wrong is None and wanted is not None and wanted != told_of(trial, end):
-            wrong = f"it ended with {end.status} and {end.printed[:80]!r}, another program with {wanted[0]} and {b' '.join(wanted[1])[:80]!r}"
+            other = b" ".join(wanted[1])[:80]
+            wrong = f"it ended with {end.status} and {end.printed[:80]!r}, another program with {wanted[0]} and {other!r}"
         wanted = wanted or told_of(trial, end)
         if wrong is not None:
             folder = kept / f"{len(found.wrong) + 1}"
@@ -117,7 +118,9 @@ def try_one(programs: list[Path], against: Path | None, trial: Trial, found: Fou
     found.runs += 1
 
 
-def change_and_run(programs: list[Path], against: Path | None, seconds: float, seed: int, runs: int | None, found: Found, kept: Path) -> None:
+def change_and_run(
+    programs: list[Path], against: Path | None, seconds: float, seed: int, runs: int | None, found: Found, kept: Path
+) -> None:
     dice, kinds, until = random.Random(seed), trials(), time.monotonic() + seconds
     while (found.runs < runs) if runs is not None else (time.monotonic() < until):
         try_one(programs, against, changed_trial(dice.choice(kinds), dice), found, kept)

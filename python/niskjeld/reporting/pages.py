@@ -90,7 +90,8 @@ def summary(results: list[dict[str, Any]]) -> str:
     refused = sum(bool(told["fault"] or any(one["fault"] for one in told["books"])) for told in results)
     answered = sum(all(one["answers"] for one in told["books"]) and bool(told["books"]) for told in results)
     changed = sum(bool(told["went"] or told["came"]) for told in results)
-    said = f"{len(results)} scenarios: {answered} with answers, each checked; {len(results) - answered - refused} with none; {refused} refused"
+    none = len(results) - answered - refused
+    said = f"{len(results)} scenarios: {answered} with answers, each checked; {none} with none; {refused} refused"
     return said + (f"; {changed} changed" if any(len(told["books"]) == 2 for told in results) else "")
 
 
@@ -101,10 +102,13 @@ def index(results: list[dict[str, Any]], books: list[str]) -> str:
     changed = '<th rowspan="2" class="left">what changed</th>' if len(books) == 2 else ""
     rows = "".join(_row(told, len(books)) for told in results)
     title = " against ".join(Path(book).stem for book in books)
+    columns = f"<tr>{columns}</tr>"
     return f"""<!DOCTYPE html>
-<html lang="en"><head><meta charset="utf-8"><meta name="viewport" content="width=device-width"><title>{html.escape(title)}</title><style>{STYLE}</style></head><body>
+<html lang="en"><head><meta charset="utf-8"><meta name="viewport" content="width=device-width">
+<title>{html.escape(title)}</title><style>{STYLE}</style></head><body>
 <h1>{html.escape(title)}</h1><p>{html.escape(summary(results))}.</p>
-<div class="wide"><table><tr><th rowspan="2" class="left">scenario</th>{heads}{changed}</tr><tr>{columns}</tr>{rows}</table></div>
-<p>A number of answers leads to the picture. An answer that went is one of the first book's that another answer beats by the second; one that came is one of the second's that is beaten by the first.</p>
+<div class="wide"><table><tr><th rowspan="2" class="left">scenario</th>{heads}{changed}</tr>{columns}{rows}</table></div>
+<p>A number of answers leads to the picture. An answer that went is one of the first book's that another answer beats by the second;
+one that came is one of the second's that is beaten by the first.</p>
 </body></html>
 """

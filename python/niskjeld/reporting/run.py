@@ -2,6 +2,7 @@
 
 from __future__ import annotations
 
+import importlib
 import json
 import os
 import sys
@@ -17,6 +18,7 @@ from .job import Job
 from .pages import draw
 
 Result = dict[str, Any]
+NO_DASK = "--scheduler needs Dask's `distributed`: on Debian apt install python3-distributed, and run this by /usr/bin/python3"
 PACKAGE = Path(__file__).resolve().parents[1]
 
 
@@ -70,18 +72,17 @@ def _package(folder: Path) -> Path:
 def on_a_cluster(todo: list[Job], folder: Path, scheduler: str) -> Iterator[tuple[Job, Result]]:
     """The same jobs by the workers of a Dask cluster; what a worker that ends had begun is done by another."""
     try:
-        from distributed import Client
-        from distributed import as_completed as each_completed
+        dask: Any = importlib.import_module("distributed")
     except ImportError:
-        raise Fault("--scheduler needs Dask's `distributed`: on Debian apt install python3-distributed, and run this by /usr/bin/python3") from None
+        raise Fault(NO_DASK) from None
     try:
-        client = Client(scheduler, timeout="10s")
+        client = dask.Client(scheduler, timeout="10s")
     except (OSError, ValueError) as fault:
         raise Fault(f"{scheduler}: no scheduler answers: {fault}") from None
     with client, tempfile.TemporaryDirectory() as made:
         client.upload_file(str(_package(Path(made))))
         waiting = {client.submit(jobs.run, job, key=f"niskjeld-{job.name}-{job.digest()[:16]}", retries=3): job for job in todo}
-        for done in each_completed(list(waiting)):
+        for done in dask.as_completed(list(waiting)):
             job, told = waiting[done], done.result()
             keep(job, told, folder)
             yield job, told
@@ -91,7 +92,8 @@ def progress(done: int, of: int, name: str) -> None:
     """A bar on standard error, where that is a terminal."""
     if sys.stderr.isatty():
         full = 30 * done // max(1, of)
-        print(f"\r[{'#' * full}{'.' * (30 - full)}] {done}/{of} {name[:30]:<30}", end="" if done < of else "\n", file=sys.stderr, flush=True)
+        bar = f"[{'#' * full}{'.' * (30 - full)}] {done}/{of} {name[:30]:<30}"
+        print(f"\r{bar}", end="" if done < of else "\n", file=sys.stderr, flush=True)
 
 
 def run_all(todo: list[Job], folder: Path, runner: Callable[[list[Job]], Iterator[tuple[Job, Result]]]) -> list[Result]:

@@ -126,7 +126,7 @@ def _weight(source: Source, number: int) -> Told:
     said = "a weight is 1 to 1,000,000"
     if line is None:
         return source.in_line(number, said)
-    places = range(2, len(line.words), 2) if line.words[0].text == "merge" else [2]
+    places = list(range(2, len(line.words), 2)) if line.words[0].text == "merge" else [2]
     for place in places:
         if place < len(line.words) and line.words[place].text.isdigit() and not 1 <= int(line.words[place].text) <= 10**6:
             return _word(source, line, place, f"the weight is {line.words[place].text}; {said}")
@@ -259,8 +259,8 @@ def tell_test(source: Source, fault: str, about: tuple[str, ...]) -> Told | None
         return source.in_line(number, said) if number else source.whole(said)
     book = read_book(source.content.decode(errors="replace"))
     parent = read_book(source.other("parent").decode(errors="replace"))
-    new = [rule for rule in book.rules if rule not in parent.rules]
-    return _rule_line(source, book, next((name for name in (*about, *new, *book.rules) if name in book.lines), ""), said)
+    added = [rule for rule in book.rules if rule not in parent.rules]
+    return _rule_line(source, book, next((name for name in (*about, *added, *book.rules) if name in book.lines), ""), said)
 
 
 def _refused_line(source: Source) -> int | None:

@@ -35,7 +35,8 @@ class _Table:
 
 def _scan(text: str) -> tuple[_Table, dict[str, list[_Table]]]:
     """The keys at the top, and the tables of each array of tables."""
-    top, arrays = _Table(1), {}
+    top = _Table(1)
+    arrays: dict[str, list[_Table]] = {}
     now = top
     for number, line in enumerate(text.split("\n"), 1):
         if header := _HEADER.match(line):
@@ -152,7 +153,8 @@ class _Lattice:
             begins = str(table.get("from"))
             left[begins] = left.get(begins, 0) + 1
             if what == "choice" and left[begins] > 32:
-                return self.at("maneuver", index, "from", f"{self.whose('maneuver', index)} is the 33rd from `{begins}`, and 32 are allowed")
+                said = f"{self.whose('maneuver', index)} is the 33rd from `{begins}`, and 32 are allowed"
+                return self.at("maneuver", index, "from", said)
         return self.source.whole(f"too many of {what}")
 
     def duplicate(self, name: str) -> Told:
@@ -161,6 +163,10 @@ class _Lattice:
             if len(same) > 1:
                 return self.at(kind, same[1], "name", f"an earlier {kind} has the name `{name}`")
         return self.source.whole(f"two have the name `{name}`")
+
+    def of_class(self, name: str, sentence: str) -> Told:
+        index = next((index for index, table in enumerate(self.tables("class")) if table.get("name") == name), 0)
+        return self.at("class", index, "name", sentence)
 
     def unknown_class(self, name: str) -> Told:
         names = {table.get("name") for table in self.tables("class")}
@@ -220,6 +226,9 @@ def tell(source: Source, fault: str, about: tuple[str, ...]) -> Told:
             return lattice.end_mismatch(name)
         case "no-start-class", ():
             return _no_start(lattice, source)
+        case "too-many-pairs", (one, other):
+            said = f"more than 32 pairs of a maneuver from `{one}` and one from `{other}` have the same number of steps"
+            return lattice.of_class(one, said)
     return source.whole(" ".join((fault, *about)))
 
 
@@ -234,7 +243,7 @@ def _markup(source: Source) -> Told:
             return source.in_line(int(found[1]), f"no TOML: {said[: found.start()].lower()}", int(found[2]))
         lines = source.content.count(b"\n") + 1
         return source.in_line(lines, f"no TOML: {said.removesuffix(' (at end of document)').lower()}")
-    for found in re.finditer(rb"\d{19,}", source.content):
-        if int(found.group()) > 2**63 - 1:
-            return source.at_byte(found.start(), "no TOML: this number passes 64 bits", len(found.group()))
+    for digits in re.finditer(rb"\d{19,}", source.content):
+        if int(digits.group()) > 2**63 - 1:
+            return source.at_byte(digits.start(), "no TOML: this number passes 64 bits", len(digits.group()))
     return source.whole("no TOML document as the program reads it")

@@ -7,7 +7,7 @@ import difflib
 import io
 import re
 
-from ..book import NAME, Line, lines_of, read_book
+from ..book import Line, lines_of, read_book
 from ..place import Place
 from .books import _utf8
 from .told import TOO_LONG, Source, Told, maneuver_names, ordinal
@@ -141,9 +141,8 @@ def tell_records(source: Source, fault: str, about: tuple[str, ...]) -> Told | N
             hint = f"; is it `{near[0]}`?" if near else "; leave the field empty where none was driven"
             return rows.at(number, 8, f"the lattice has no maneuver `{wanted}`{hint}")
         case "tick-gap":
-            before = rows.row(number - 1)[1]
-            said = f"the tick is {fields[1] if len(fields) > 1 else ''}, and follows {before[1] if len(before) > 1 else ''}: ticks of `{name}` rise by one"
-            return rows.at(number, 1, said)
+            now, before = ((one[1:2] or [""])[0] for one in (fields, rows.row(number - 1)[1]))
+            return rows.at(number, 1, f"the tick is {now}, and follows {before}: ticks of `{name}` rise by one")
         case "duplicate-name":
             return rows.at(number, 0, f"the recording `{name}` has ended before: its rows have to follow one another")
         case "too-many":
@@ -175,10 +174,10 @@ def tell_certificate(source: Source, fault: str, about: tuple[str, ...]) -> Told
 def _first(lines: list[bytes], word: bytes, number: int) -> int:
     for word in (b"labels ", b"finals", b"goals"):
         for place, line in enumerate(lines, 1):
-            if line.startswith(word):
-                count = int(line.split()[1]) if word == b"labels " and line.split()[1:2] and line.split()[1].isdigit() else len(line.split()) - 1
-                if count > 50_000:
-                    return place
+            words = line.split()[1:]
+            labels = word == b"labels " and words[:1] and words[0].isdigit()
+            if line.startswith(word) and (int(words[0]) if labels else len(words)) > 50_000:
+                return place
     return number
 
 

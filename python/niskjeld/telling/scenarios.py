@@ -118,9 +118,15 @@ def _of_id(source: Source, kinds: tuple[str, ...], wanted: str, sentence: str) -
     return source.whole(sentence.replace("KIND", kinds[0]))
 
 
+def _problem(source: Source, number: int, sentence: str) -> Told:
+    found = _children(read_markup(source.content), "problem")
+    return _tag(source, found[number] if number < len(found) else None, sentence)
+
+
 def _too_many(source: Source, kind: str) -> Told:
     top, most = read_markup(source.content), _MOST[kind]
-    said = f"this {kind} is one too many: {'a problem has at most 64 goals' if kind == 'goal' else f'a goal has at most 64 regions' if kind == 'region' else f'a scenario has at most {most:,} {kind}s'}"
+    whose = {"goal": "a problem", "region": "a goal"}.get(kind, "a scenario")
+    said = f"this {kind} is one too many: {whose} has at most {most:,} {kind}s"
     if kind in _GROUPS:
         found = _children(top, kind)
         return _tag(source, found[most] if len(found) > most else None, said)
@@ -178,5 +184,7 @@ def tell(source: Source, fault: str, about: tuple[str, ...]) -> Told:
         case "no-problem", ():
             return _tag(source, _root(read_markup(source.content)), "the document has no <planningProblem>, so nothing says where to start")
         case "one-problem", ():
-            return source.whole("two vehicles need two planning problems, and the document has one")
+            return _problem(source, 0, "two vehicles need two planning problems, and the document has one")
+        case "start-ticks-differ", (one, other):
+            return _problem(source, 1, f"the second problem starts at tick {other}, and the first at tick {one}: both have to start at one")
     return source.whole(" ".join((fault, *about)))
