@@ -1,5 +1,7 @@
 """Tests of the package python/niskjeld: python3 tools/test_niskjeld.py. What is wanted stands in examples/ or is worked out by hand."""
 
+import contextlib
+import doctest
 import subprocess
 import sys
 import tempfile
@@ -84,6 +86,12 @@ class Reading(unittest.TestCase):
             with self.assertRaises(NoExpression) as raised:
                 features_of(text)
             self.assertEqual(raised.exception.at, at, text)
+
+    def test_the_page_runs_as_it_stands(self):
+        with contextlib.chdir(TOP):
+            done = doctest.testfile(str(TOP / "docs" / "PYTHON.md"), module_relative=False)
+        self.assertGreater(done.attempted, 30)
+        self.assertEqual(done.failed, 0)
 
     def test_the_tools_are_listed(self):
         done = subprocess.run([sys.executable, "-m", "niskjeld"], cwd=TOP / "python", capture_output=True, text=True)

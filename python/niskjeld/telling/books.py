@@ -192,17 +192,19 @@ def _is_known(source: Source, feature: Feature) -> bool:
     return feature.name in CALLED and feature.argument in _known_arguments(source, feature)
 
 
-def _hint(source: Source, feature: Feature) -> str:
-    if feature.argument is None or feature.name not in CALLED:
+def _unknown_and_near(source: Source, feature: Feature) -> str:
+    """What there is none of, and what is near it."""
+    if feature.name not in CALLED or feature.argument is None:
         near = difflib.get_close_matches(feature.name, [*PLAIN, *CALLED], 2)
         form = {"in_lanelet": "in_lanelet(ID)", "maneuver": "maneuver(NAME)"}
-        return f"; is it {' or '.join(f'`{form.get(one, one)}`' for one in near)}?" if near else ""
+        hint = f"; is it {' or '.join(f'`{form.get(one, one)}`' for one in near)}?" if near else ""
+        return f"there is no such feature{hint}"
     known = _known_arguments(source, feature)
     near = difflib.get_close_matches(feature.argument, known, 2)
-    kind = "lanelets of the scenario" if feature.name == "in_lanelet" else "maneuvers of the lattice"
+    which = "the scenario has no such lanelet" if feature.name == "in_lanelet" else "the lattice has no such maneuver"
     if near:
-        return f"; is it {' or '.join(f'`{one}`' for one in near)}?"
-    return f"; the {kind} are {', '.join(known[:6])}{' ..' if len(known) > 6 else ''}" if known else f"; there are no {kind}"
+        return f"{which}; is it {' or '.join(f'`{one}`' for one in near)}?"
+    return f"{which}; it has {', '.join(known[:6])}{' ..' if len(known) > 6 else ''}" if known else f"{which}, and none at all"
 
 
 def _unknown_feature(source: Source, book: Book, rule: str) -> Told:
@@ -213,9 +215,9 @@ def _unknown_feature(source: Source, book: Book, rule: str) -> Told:
             continue
         for feature in features:
             if not _is_known(source, feature):
-                said = f"`{rule}` measures `{feature}`, which there isn't{_hint(source, feature)}"
+                said = f"`{rule}` measures `{feature}`, and {_unknown_and_near(source, feature)}"
                 return source.in_line(part.line, said, part.at + feature.at + 1, len(str(feature)))
-    return _rule_line(source, book, rule, f"a part of `{rule}` measures what there is not")
+    return _rule_line(source, book, rule, f"a part of `{rule}` measures a feature, a lanelet or a maneuver that there is none of")
 
 
 def tell_binding(source: Source, fault: str, about: tuple[str, ...]) -> Told | None:
