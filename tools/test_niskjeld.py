@@ -93,6 +93,12 @@ class Reading(unittest.TestCase):
         self.assertGreater(done.attempted, 30)
         self.assertEqual(done.failed, 0)
 
+    def test_each_tool_tells_wrong_words_in_one_line(self):
+        for tool in ("lattice", "explain", "records", "draw", "report", "hostile"):
+            done = subprocess.run([sys.executable, TOP / "tools" / tool, "--nothing"], capture_output=True, text=True)
+            self.assertEqual((done.returncode, done.stdout, done.stderr.count("\n")), (2, "", 1), tool)
+            self.assertTrue(done.stderr.startswith(f"{tool}: "), done.stderr)
+
     def test_the_tools_are_listed(self):
         done = subprocess.run([sys.executable, "-m", "niskjeld"], cwd=TOP / "python", capture_output=True, text=True)
         self.assertIn("tools/draw", done.stdout)
