@@ -128,9 +128,9 @@ class Making(unittest.TestCase):
     def test_faults_are_told_in_one_line(self):
         (self.folder / "s.xml").write_text(bend("fast", GOAL))
         for words, said in (
-            (("nowhere.xml",), "nowhere.xml"),
-            ((self.folder / "b.book",), "syntax error"),
-            ((self.folder / "s.xml",), "no number: fast"),
+            (("nowhere.xml",), "nowhere.xml: the scenario can't be read"),
+            ((self.folder / "b.book",), "b.book:1:1: text outside the root element"),
+            ((self.folder / "s.xml",), "`fast` in <exact> is no number"),
             ((ROAD / "narrow_road.xml", "--grain", "1"), "--grain takes three numbers"),
             ((ROAD / "narrow_road.xml", "--length", "0"), "are above 0"),
         ):

@@ -96,7 +96,7 @@ class TooManyStates(Fault):
     """More states can be reached than were allowed."""
 
 
-def reached(lattice: Lattice, problem: Problem, most: int = 500_000) -> dict[Spot, tuple[Spot, str] | None]:
+def reached(lattice: Lattice, problem: Problem, most: int = 200_000) -> dict[Spot, tuple[Spot, str] | None]:
     """Each state that some list of maneuvers reaches, with the one before it and the maneuver between; in the order of ticks."""
     start = lattice.start_class(problem)
     if start is None:
@@ -117,8 +117,8 @@ def reached(lattice: Lattice, problem: Problem, most: int = 500_000) -> dict[Spo
                 if after not in found:
                     found[after] = (spot, name)
                     waiting[after.tick].append(after)
-        if len(found) > most:
-            raise TooManyStates(f"more than {most:,} states are reached")
+            if len(found) > most:
+                raise TooManyStates(f"more than {most:,} states are reached")
     return found
 
 

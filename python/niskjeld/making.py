@@ -158,7 +158,7 @@ def key_speeds(problem: Problem, goal: Goal, way: Way, car: Car, apart: float) -
     top = 1000 * (car.top or way.limit or 13.9)
     horizon = (goal.ticks.high - problem.start.tick) or 1
     top = max(start, top, goal.speed.low if goal.speed else 0)
-    count = max(number, 1, min(int(top / unit + 0.05), number + horizon))
+    count = min(max(number, 1, min(int(top / unit + 0.05), number + horizon)), MOST_CLASSES)
     speeds = [unit * k for k in range(count + 1)]
     if goal.speed and not any(goal.speed.holds(one) for one in speeds):
         middle = (goal.speed.low + goal.speed.high) // 2

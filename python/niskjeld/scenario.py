@@ -254,6 +254,9 @@ def read_scenario(path: str | os.PathLike[str]) -> Scenario:
             problems.append(Problem(_id(element), _state(start, 0), [_goal(one, lanelets) for one in element.findall("goalState")]))
         if not problems:
             raise Fault("the document has no <planningProblem>")
-        return Scenario(whole(root.get("timeStepSize") or "", 6), lanelets, obstacles, problems, _limits(root))
+        step = whole(root.get("timeStepSize") or "", 6)
+        if not 1 <= step <= 10**9:
+            raise Fault("timeStepSize is out of its range")
+        return Scenario(step, lanelets, obstacles, problems, _limits(root))
     except Fault as fault:
         raise Fault(f"{os.fspath(path)}: {fault}") from None

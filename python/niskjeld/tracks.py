@@ -12,7 +12,7 @@ from .program import Fault
 from .scenario import Obstacle, Scenario, State
 from .telling.others import COLUMNS
 
-MOST_RECORDINGS, MOST_STEPS = 200, 1001
+MOST_RECORDINGS, MOST_STEPS, MOST_OBSTACLES = 200, 1001, 500
 
 
 @dataclass(frozen=True)
@@ -112,10 +112,13 @@ def numbers(words: Iterable[str]) -> list[int]:
     """Ids, as `7` or `7-9`."""
     found: list[int] = []
     for word in words:
-        match = re.fullmatch(r"(\d+)(?:-(\d+))?", word)
+        match = re.fullmatch(r"(\d{1,18})(?:-(\d{1,18}))?", word)
         if match is None:
             raise Fault(f"an id is digits, or two with `-` between, not {word}")
-        found += range(int(match[1]), int(match[2] or match[1]) + 1)
+        first, last = int(match[1]), int(match[2] or match[1])
+        if last - first >= MOST_OBSTACLES:
+            raise Fault(f"{word} names more obstacles than the {MOST_OBSTACLES} that a scenario may have")
+        found += range(first, last + 1)
     return found
 
 

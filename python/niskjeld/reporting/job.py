@@ -13,7 +13,7 @@ from dataclasses import dataclass
 from pathlib import Path
 from typing import Any
 
-from ..commands import check, compare, plan, walk
+from ..commands import check, compare, plan, show, walk
 from ..lattice import written
 from ..making import comment_of, make
 from ..program import Fault
@@ -74,6 +74,7 @@ def _lattice(job: Job, folder: Path) -> tuple[Path, str | None]:
     """The lattice's file, and its text where it was made."""
     if job.lattice is not None:
         return Path(job.lattice), None
+    show(job.scenario, program=Path(job.program), seconds=job.seconds)
     scenario = read_scenario(job.scenario)
     made = make(scenario, scenario.problems[0], most_states=job.states)
     comment = comment_of(made, scenario, scenario.problems[0], Path(job.scenario).name)
