@@ -14,13 +14,15 @@ from .outcomes import wrong_with
 
 KIB = 1024
 ROAD = TOP / "examples" / "narrow_road" / "narrow_road"
+CITY = TOP / "examples" / "city" / "city"
 SCENE = tuple(f"{ROAD}.{ending}" for ending in ("xml", "book", "lattice"))
+TOWN = tuple(f"{CITY}.{ending}" for ending in ("xml", "book", "lattice"))
 CALLS: dict[str, tuple[str, ...]] = {
-    "plan": ("plan", *SCENE, "saved"),
-    "check": ("check", *SCENE, f"{ROAD}.certificate"),
+    "plan": ("plan", *TOWN, "saved"),
+    "check": ("check", *TOWN, f"{CITY}.certificate"),
     "judge": ("judge", *SCENE, str(ROAD.parent / "driven.records")),
     "walk": ("walk", *SCENE, "keep,keep"),
-    "show": ("show", SCENE[0]),
+    "show": ("show", TOWN[0]),
     "derive": ("derive", SCENE[1], str(ROAD.parent / "patient.script")),
     "accept": ("accept", SCENE[1], str(ROAD.parent / "patient.book")),
     "pick": ("pick", str(TOP / "examples" / "parked_car.book"), str(TOP / "examples" / "parked_car.table")),
@@ -42,20 +44,26 @@ def _done(program: Path, words: tuple[str, ...], folder: Path, **how: object) ->
     return done
 
 
+def least_to_start(program: Path, folder: Path) -> int:
+    """The KiB with which the system starts the program at all: it prints its usage."""
+    low, high = 256, 65_536
+    while high - low > 4:
+        most = (low + high) // 2
+        starts = _done(program, ("no", "command"), folder, preexec_fn=_memory(most * KIB)).returncode == Status.USAGE
+        low, high = (low, most) if starts else (most, high)
+    return high
+
+
 def little_memory(program: Path, folder: Path, told: list[str]) -> int:
-    """From too little to start up to enough: it prints all, or nothing and ends with 5."""
-    runs = 0
+    """From what it takes to start up to enough: it prints all, or nothing and ends with 5."""
+    runs, least = 0, least_to_start(program, folder)
     for command, words in CALLS.items():
         whole = _done(program, words, folder)
-        starts = False
-        for most in (*range(1024, 8192, 256), *range(8192, 65536, 4096), 262_144):
+        for more in (*range(0, 1024, 16), *range(1024, 6144, 128), 65_536):
             (folder / "saved").unlink(missing_ok=True)
+            most = least + more
             done = _done(program, words, folder, preexec_fn=_memory(most * KIB))
             runs += 1
-            # Below some limit the system doesn't start the program at all.
-            if not starts and (done.returncode < 0 or done.returncode == 127):
-                continue
-            starts = True
             wrong = wrong_with(command, done.returncode, done.stdout, done.stderr)
             if wrong is None and done.returncode == Status.DONE and done.stdout != whole.stdout:
                 wrong = "it printed something else than with enough"
