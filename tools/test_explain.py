@@ -1,4 +1,4 @@
-"""Tests of tools/explain: python3 tools/test_explain.py. Each refusal of rows/ and examples/ has its sentence, and its place where there is one."""
+"""Tests of tools/explain: python3 tools/test_explain.py. Each refusal of rows/ and examples/ has its sentence, and its place if it has one."""
 
 import importlib.machinery
 import importlib.util
@@ -13,14 +13,31 @@ TOP = Path(__file__).resolve().parent.parent
 sys.path.insert(0, str(TOP / "python"))
 
 from niskjeld.explaining import explained  # noqa: E402
-from niskjeld.program import Call, call  # noqa: E402
+from niskjeld.program import ROLES, Call, call  # noqa: E402
 from niskjeld.refusals import Refusal, Rejected, raised  # noqa: E402
 from niskjeld.telling import tell  # noqa: E402
 
 # Faults of a file that have no place in it.
 PLACELESS = {"too-long", "empty", "no-rules"}
 EXAMPLE = TOP / "examples" / "ease_left" / "ease_left"
-PAGES = ("README.md", "docs/SCENARIOS.md", "docs/LATTICES.md", "docs/RECORDINGS.md", "docs/CERTIFICATES.md", "docs/DERIVING.md")
+COMMANDS = {"table": "pick", "records": "judge", "certificate": "check", "script": "derive", "child": "accept", "list": "walk"}
+# Of each page the header of a table of faults, the column in which they stand, and the role of the file.
+TABLES = (
+    ("README.md", "| FAULT of a book | When |", 1, "book"),
+    ("README.md", "| FAULT of a table | When |", 1, "table"),
+    ("README.md", "| FAULT | When |", 1, "book"),
+    ("docs/SCENARIOS.md", "| Fault | When |", 1, "scenario"),
+    ("docs/LATTICES.md", "| # | What is looked at | FAULT |", 3, "lattice"),
+    ("docs/RECORDINGS.md", "| Fault | When |", 1, "records"),
+    ("docs/CERTIFICATES.md", "| FAULT | When |", 1, "certificate"),
+)
+NAMES = {"X": "0,1", "Y": "1,0", "KIND": "lanelet", "KEY": "horizon"}
+# Lines of a page that name faults in a sentence.
+LINES = (
+    ("docs/DERIVING.md", "They are printed as `syntax N`", ("script",)),
+    ("docs/DERIVING.md", "They are printed as `rules-differ A`", ("script", "child")),
+    ("README.md", "A name of LIST that no choice has", ("list",)),
+)
 
 
 def rows_module():
@@ -33,6 +50,26 @@ def rows_module():
 
 def explain(*words):
     return subprocess.run([sys.executable, TOP / "tools" / "explain", *map(str, words)], capture_output=True, text=True)
+
+
+def faults_in(text):
+    """The faults in backticks, with 1 in the place of a number and a name in the place of a name."""
+    for words in re.findall(r"`(?:refused list )?([a-z][a-z0-9-]*(?: [A-Za-z,]+)*)`", text):
+        fault, *about = words.split()
+        if fault not in ROLES and all(word.isupper() or word in ("class", "maneuver", "step", "choice") for word in about):
+            yield fault, tuple("1" if word in ("N", "K", "P", "ID", "ROW") else NAMES.get(word, word) for word in about)
+
+
+def faults_of_pages():
+    for page, header, column, role in TABLES:
+        lines = (TOP / page).read_text().splitlines()
+        for line in lines[lines.index(header) + 2 :]:
+            if not line.startswith("|"):
+                break
+            yield from ((role, *one) for one in faults_in(line.split("|")[column]))
+    for page, begins, roles in LINES:
+        line = next(line for line in (TOP / page).read_text().splitlines() if line.startswith(begins))
+        yield from ((role, *one) for role in roles for one in faults_in(line))
 
 
 class Rows(unittest.TestCase):
@@ -64,18 +101,15 @@ class Rows(unittest.TestCase):
         self.assertGreater(len(seen), 60)
 
     def test_every_fault_of_the_pages_has_its_sentence(self):
-        call_of = {"table": "pick", "records": "judge", "certificate": "check", "script": "derive", "child": "accept", "list": "walk"}
-        for page, text in ((page, (TOP / page).read_text()) for page in PAGES):
-            for line in text.splitlines():
-                for role, words in re.findall(r"refused (\w+) ([a-z-]+(?: [\w,]+)*)`", line):
-                    if words.isupper() or role == "ROLE":
-                        continue
-                    fault, *about = words.split()
-                    about = ["1" if word in ("N", "K", "ROW", "P", "ID") else word for word in about]
-                    if fault == "FAULT" or not fault.islower():
-                        continue
-                    told = tell(Call((call_of.get(role, "plan"), *[str(EXAMPLE)] * 4), 1, ""), role, fault, tuple(about))
-                    self.assertNotEqual(told.sentence, " ".join((fault, *about)), f"{page}: refused {role} {words}")
+        seen = set()
+        for role, fault, about in faults_of_pages():
+            words = (COMMANDS.get(role, "plan"), *[str(EXAMPLE)] * 4)
+            told = tell(Call(words, 1, ""), role, fault, about)
+            self.assertNotEqual(told.sentence, " ".join((fault, *about)), f"refused {role} {fault}")
+            seen.add((role, fault))
+        wanted = {"book": 12, "table": 7, "scenario": 14, "lattice": 8, "records": 9, "certificate": 6, "script": 11, "child": 5, "list": 1}
+        counted = {role: sum(one == role for one, _ in seen) for role in wanted}
+        self.assertTrue(all(counted[role] >= number for role, number in wanted.items()), counted)
 
     def test_every_condition_has_its_sentence(self):
         for condition in range(1, 9):
