@@ -103,6 +103,8 @@ class Making(unittest.TestCase):
         problem_of = read_scenario(ROAD / "narrow_road.xml")
         made = make(problem_of, problem_of.problems[0]).lattice
         self.assertLessEqual(len(made.classes), MOST_CLASSES)
+        # the lane of those who come towards us is 3 m to the left, though the document names no neighbours
+        self.assertEqual({one.steps[-1][1] for one in made.maneuvers if one.name.startswith("lane_left")}, {30_000})
         for one in made.classes:
             self.assertLessEqual(sum(m.begins == one.name for m in made.maneuvers), MOST_CHOICES)
         for one in made.maneuvers:

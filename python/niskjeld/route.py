@@ -189,15 +189,36 @@ def _headings(scenario: Scenario, problem: Problem, path: list[tuple[int, bool]]
 def _sides(scenario: Scenario, path: list[tuple[int, bool]]) -> tuple[float | None, float | None]:
     """How far the middles of the lanes to the left and to the right are, where the way has some."""
     sides: list[float | None] = []
+    on_the_way = {lane for lane, _ in path}
     for left in (True, False):
         found = []
         for lane, _ in path:
             one = scenario.lanelets[lane]
             other = scenario.lanelets.get((one.beside_left if left else one.beside_right) or 0)
+            other = other or _beside(scenario, one, left, on_the_way)
             if other is not None:
                 found.append((width_of(one) + width_of(other)) / 2)
         sides.append(sum(found) / len(found) if found else None)
     return sides[0], sides[1]
+
+
+def _beside(scenario: Scenario, one: Lanelet, left: bool, but: set[int]) -> Lanelet | None:
+    """A lanelet along this one that lies a lane's width to the side of its middle, where the document names no neighbour."""
+    line = middle(one)
+    (ax, ay), (bx, by) = line[(len(line) - 1) // 2], line[(len(line) - 1) // 2 + 1]
+    length = math.hypot(bx - ax, by - ay)
+    if not length:
+        return None
+    aside = width_of(one) * METRE / length * (1 if left else -1)
+    point = round((ax + bx) / 2 - (by - ay) * aside), round((ay + by) / 2 + (bx - ax) * aside)
+    for other in scenario.lanelets.values():
+        low_x, low_y, high_x, high_y = _box(other.corners)
+        if other.id in but or not (low_x <= point[0] <= high_x and low_y <= point[1] <= high_y):
+            continue
+        turned = projected(middle(other), point)[3] - math.atan2(by - ay, bx - ax)
+        if abs(math.sin(turned)) < 0.3 and inside(other.corners, point):
+            return other
+    return None
 
 
 def _limit(scenario: Scenario, path: list[tuple[int, bool]]) -> float | None:
