@@ -157,8 +157,8 @@ class Sentences(unittest.TestCase):
     def test_an_end_mismatch_has_both_values(self):
         self.says(self.changed("lattice", "8000, -10000, -500000", "8001, -10000, -500000"), "ends with speed 8001", "has speed 8000")
 
-    def test_no_start_class_has_the_speeds(self):
-        self.says(self.changed("lattice", "speed = 10000", "speed = 11000"), "end-mismatch" if False else "`keep` ends with speed 10000")
+    def test_a_class_that_no_longer_fits_is_told_by_its_maneuver(self):
+        self.says(self.changed("lattice", "speed = 10000", "speed = 11000"), "`keep` ends with speed 10000")
         self.says(self.changed("lattice", "heading = 0 ", "heading = 1 "), "`keep` ends with heading 0")
 
     def test_none_says_why(self):

@@ -6,7 +6,7 @@ from pathlib import Path
 
 from .lattice import Lattice, Spot, TooManyStates, heading_fits, list_to, point_of, reached, read_lattice
 from .exact import to_polygon
-from .program import Call, Fault, Status
+from .program import Call, Status
 from .refusals import Refused, raised
 from .scenario import Goal, Problem, Scenario, read_scenario
 
@@ -96,6 +96,3 @@ def _nearest(goal: Goal, problem: Problem, spots: list[Spot], found: dict[Spot, 
     names = " ".join(list_to(found, nearest)) or "(the empty list)"
     tick = problem.start.tick + nearest.tick
     return f"the nearest that a list comes to the goal's region in time is {distance(nearest) / 1e4:.2f} m, at tick {tick}: {names}"
-
-
-__all__ = ["Fault", "explained", "status_of", "why_none"]

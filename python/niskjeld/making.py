@@ -420,6 +420,3 @@ def comment_of(made: Made, scenario: Scenario, problem: Problem, name: str) -> s
         f"{len(lattice.classes)} classes, {len(lattice.maneuvers)} maneuvers, {made.states:,} states within the horizon; {reach}.",
     ]
     return "\n".join(lines)
-
-
-__all__ = ["Car", "GRAINS", "Grain", "MOST_STATES", "Made", "comment_of", "make"]

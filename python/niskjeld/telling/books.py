@@ -88,7 +88,7 @@ def _words_of(source: Source, line: Line, first: str, form: str) -> Told:
     return _expression(source, line, 3)
 
 
-def _named(source: Source, number: int, forms: dict[str, str]) -> list[int]:
+def _named(source: Source, number: int) -> list[int]:
     """The places of the words of a line that name rules which have to stand before it."""
     line = _line(source, number)
     if line is None:
@@ -105,9 +105,9 @@ def _named(source: Source, number: int, forms: dict[str, str]) -> list[int]:
     return []
 
 
-def _unknown(source: Source, number: int, known: list[str], forms: dict[str, str], where: str) -> Told:
+def _unknown(source: Source, number: int, known: list[str], where: str) -> Told:
     line = _line(source, number)
-    for place in _named(source, number, forms):
+    for place in _named(source, number):
         if line is not None and place < len(line.words) and line.words[place].text not in known:
             name = line.words[place].text
             near = difflib.get_close_matches(name, known, 1)
@@ -133,7 +133,7 @@ def _weight(source: Source, number: int) -> Told:
     return source.in_line(number, f"{said}, also where it is multiplied by the weight of a part")
 
 
-def _utf8(source: Source) -> Told:
+def not_utf8(source: Source) -> Told:
     try:
         source.content.decode()
     except UnicodeDecodeError as fault:
@@ -147,11 +147,11 @@ def tell_lines(source: Source, fault: str, about: tuple[str, ...]) -> Told | Non
         case "too-long", ():
             return source.whole(TOO_LONG)
         case "not-utf8", ():
-            return _utf8(source)
+            return not_utf8(source)
         case "syntax", (number,):
             return _syntax(source, int(number), _FORMS)
         case "unknown-name", (number,):
-            return _unknown(source, int(number), _before(source, int(number)).rules, _FORMS, "an earlier line")
+            return _unknown(source, int(number), _before(source, int(number)).rules, "an earlier line")
         case "duplicate-name", (number,):
             return _duplicate(source, int(number), _before(source, int(number)))
         case "bad-weight", (number,):
@@ -283,11 +283,11 @@ def tell_script(source: Source, fault: str, about: tuple[str, ...]) -> Told | No
         case "too-long", ():
             return source.whole(TOO_LONG)
         case "syntax", ("1",) if b"\xff" in source.content or not _decodes(source.content):
-            return _utf8(source)
+            return not_utf8(source)
         case "syntax", (number,):
             return _syntax(source, int(number), _SCRIPT_FORMS)
         case "unknown-rule", (number,):
-            return _unknown(source, int(number), _rules_before(source, int(number)), _SCRIPT_FORMS, "the book")
+            return _unknown(source, int(number), _rules_before(source, int(number)), "the book")
         case "duplicate-name", (number,):
             return _duplicate(source, int(number), Book())
         case "bad-weight", (number,):

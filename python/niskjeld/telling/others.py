@@ -9,7 +9,7 @@ import re
 
 from ..book import Line, lines_of, read_book
 from ..place import Place
-from .books import _utf8
+from .books import not_utf8
 from .told import TOO_LONG, Source, Told, maneuver_names, ordinal
 
 COLUMNS = ("name", "tick", "x", "y", "heading", "speed", "accel", "turn", "maneuver")
@@ -72,7 +72,7 @@ def tell_table(source: Source, fault: str, about: tuple[str, ...]) -> Told | Non
         case "too-long", ():
             return source.whole(TOO_LONG)
         case "not-utf8", ():
-            return _utf8(source)
+            return not_utf8(source)
         case ("syntax" | "wrong-width" | "bad-number" | "duplicate-name" | "too-many-rows"), (number,):
             return _table_row(source, fault, int(number))
     return None
