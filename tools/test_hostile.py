@@ -49,7 +49,7 @@ class Hostile(unittest.TestCase):
             ("echo x >s.book; " + refused, "a file was changed or made"),
             ("echo x >saved; " + refused, "its certificate was saved"),
             ("echo rules a; echo none", "its certificate was not saved"),
-            ("i=0; while [ $i -lt 2000000 ]; do i=$((i+1)); done; " + refused, "it took"),
+            ("i=0; while [ $i -lt 4000000 ]; do i=$((i+1)); done; " + refused, "it took"),
         ):
             wrong = self.wrong(shell)
             self.assertEqual(len(wrong), 1, shell)

@@ -81,8 +81,9 @@ class Reports(Folder):
     def test_it_goes_on_where_it_was_stopped(self):
         self.scenes(30)
         began = subprocess.Popen(self.command("--jobs", "1"), stdout=subprocess.DEVNULL, stderr=subprocess.DEVNULL, start_new_session=True)
-        while not (self.out / "results").is_dir() or len(self.results()) < 5:
+        while began.poll() is None and (not (self.out / "results").is_dir() or len(self.results()) < 5):
             time.sleep(0.02)
+        self.assertIsNone(began.poll())
         os.killpg(began.pid, signal.SIGKILL)
         began.wait()
         before = self.results()
