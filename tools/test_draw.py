@@ -2,6 +2,7 @@
 
 import json
 import re
+import shutil
 import subprocess
 import sys
 import tempfile
@@ -9,6 +10,7 @@ import unittest
 from pathlib import Path
 
 TOP = Path(__file__).resolve().parent.parent
+ROAD = TOP / "examples" / "narrow_road"
 SCENE = TOP / "examples" / "round_the_car" / "round_the_car"
 
 
@@ -39,7 +41,7 @@ class Drawing(unittest.TestCase):
     def test_what_is_near_is_shown(self):
         # driven: -2.25 to 12.25 ahead, -0.9 to 4.9 to the left; the goal reaches from -6 to 6; 4 m more on each side
         text, _ = drawn(SCENE.with_suffix(".plan"))
-        self.assertIn('<svg viewBox="-6.250 -10.000 22.500 20.000">', text)
+        self.assertIn('<svg viewBox="-6.250 -10.000 22.500 20.000" id="map"', text)
 
     def test_what_check_prints_is_drawn_too(self):
         self.assertEqual(drawn(SCENE.with_suffix(".check"))[1], drawn(SCENE.with_suffix(".plan"))[1])
@@ -62,6 +64,61 @@ class Drawing(unittest.TestCase):
         moving = scene["obstacles"][1]
         self.assertEqual(moving["places"][0][0][0], [4, 5])
         self.assertEqual(moving["places"][1], [])
+
+    def road(self, *words):
+        done = draw(ROAD / "narrow_road.xml", ROAD / "narrow_road.lattice", *words)
+        self.assertEqual((done.returncode, done.stderr), (0, ""))
+        return done.stdout, json.loads(re.search(r'id="scene">(.*?)</script>', done.stdout, re.S).group(1))
+
+    def test_the_curves_end_in_the_vectors(self):
+        text, scene = self.road(ROAD / "narrow_road.plan", "--book", ROAD / "narrow_road.book")
+        patient, tight, wide = (drive["added"] for drive in scene["drives"])
+        # arrive is the only final part; comfort counts 10,000 for each of the steps of a brake and of a start
+        self.assertEqual([rule[-1] for rule in patient], [0, 0, 0, 0, 20000])
+        self.assertEqual([rule[-1] for rule in tight], [0, 1, 2, 0, 40000])
+        self.assertEqual([rule[-1] for rule in wide], [0, 3, 1, 0, 40000])
+        self.assertEqual(patient[4], [0, 0, 0, 10000, *[20000] * 13])
+        self.assertIn('<select id="chosen">', text)
+
+    def test_the_order_of_the_rules_is_drawn(self):
+        text, _ = self.road(ROAD / "narrow_road.plan", "--book", ROAD / "narrow_road.book")
+        order = re.search(r'<svg class="order".*?</svg>', text, re.S).group()
+        self.assertEqual((order.count("<line"), order.count("<rect"), order.count("<text")), (6, 5, 5))
+        self.assertIn("collision above oncoming", order)
+
+    def test_what_judge_prints_is_drawn(self):
+        text, scene = self.road(ROAD / "driven.judge", "--records", ROAD / "driven.records")
+        self.assertEqual([(d["names"], d["layer"]) for d in scene["drives"]], [(["stays"], 0), (["goes_at_once"], 1), (["waits_and_goes"], 0)])
+        self.assertIn("<code>stays goes_at_once first collision</code>", text)
+        self.assertEqual(len(scene["drives"][0]["path"]), 17)
+
+    def test_the_page_of_the_city_is_what_is_drawn(self):
+        city = [TOP / "examples" / "city" / f"city.{ending}" for ending in ("xml", "lattice", "plan", "book", "html")]
+        self.assertEqual(draw(*city[:3], "--book", city[3]).stdout, city[4].read_text())
+
+    @unittest.skipUnless(shutil.which("chromium"), "there is no chromium")
+    def test_a_browser_plays_it_without_a_mouse(self):
+        text, _ = self.road(ROAD / "narrow_road.plan", "--book", ROAD / "narrow_road.book")
+        keys = "<script>document.body.dispatchEvent(new KeyboardEvent('keydown',{key:' ',bubbles:true}));"
+        keys += "chosen.value=1;chosen.onchange();setTimeout(()=>play.click(),3200)</script></body>"
+        with tempfile.TemporaryDirectory() as folder:
+            page = Path(folder) / "page.html"
+            page.write_text(text.replace("</body>", keys))
+            browser = ["chromium", "--headless", "--no-sandbox", "--disable-gpu", f"--user-data-dir={folder}/profile"]
+            done = subprocess.run([*browser, "--virtual-time-budget=9000", "--dump-dom", page.as_uri()], capture_output=True, text=True, timeout=60)
+        # half a second a tick: after 3.2 s it stops at tick 6
+        self.assertIn('<b id="tick">tick 6 of 16</b>', done.stdout)
+        self.assertIn(">20000 of 40000<", done.stdout)
+
+    def test_a_scene_far_from_the_origin_is_moved_to_it(self):
+        # at 5,334 km single precision is half a metre; the origin is a whole number of ten metres near the start
+        with tempfile.TemporaryDirectory() as folder:
+            scenario = Path(folder) / "far.xml"
+            text = SCENE.with_suffix(".xml").read_text()
+            scenario.write_text(re.sub(r"<x>(-?\d+)</x>", lambda found: f"<x>{int(found[1]) + 5334212}.25</x>", text))
+            done = draw(scenario, SCENE.with_suffix(".lattice"), SCENE.with_suffix(".plan"))
+        scene = json.loads(re.search(r'id="scene">(.*?)</script>', done.stdout, re.S).group(1))
+        self.assertEqual((scene["origin"], scene["drives"][0]["path"]), ([5334210, 0], [[2.25, 0], [12.25, 4]]))
 
     def test_faults_are_told_in_one_line(self):
         book = SCENE.with_suffix(".book")

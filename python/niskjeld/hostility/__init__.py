@@ -1,0 +1,1 @@
+"""Hostile files, little memory and broken outputs for the program."""

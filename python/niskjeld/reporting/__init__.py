@@ -1,0 +1,1 @@
+"""A folder of scenarios planned by one book or two, as pages."""
