@@ -105,3 +105,8 @@ pub data LeadsToLabel (labels : List CertLabel) : ℕ → List ℕ → Type 0 wh
 -- how many links the labels have together
 abbrev pub links_of : List CertLabel → ℕ
 links_of labels = sum_by (λ label. length label.links) labels
+
+-- how many labels come after the first
+abbrev pub later_labels : List CertLabel → ℕ
+later_labels [] = 0
+later_labels (_ ∷ labels) = length labels

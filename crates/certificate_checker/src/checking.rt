@@ -5,6 +5,7 @@ ghost use Rattle.rulebook_order.specs.NoWorseBy.{NoWorseBy, no_worse_by};
 ghost use Rattle.rulebook_order.specs.PairOrder.{order_of};
 ghost use Rattle.rulebook_order.specs.VectorOrder.{Holds};
 ghost use Rattle.certificate_checker.specs.GoodCertificate.{pairs_of, IsGood, answers_of, links_of};
+ghost use Rattle.certificate_checker.specs.GoodCertificate.{later_labels};
 ghost use Rattle.certificate_checker.specs.Answers.{vectors_of, FollowParents, AreAttained};
 ghost use Rattle.certificate_checker.specs.Failing.{AreLinked, AreAnswered, Fails, RejectedBy};
 ghost use Rattle.certificate_checker.specs.Labels.{ends_of};
@@ -144,7 +145,8 @@ fn check_by_test<G: StepGraph, L: Ledger>(
         (NoWorseBy (order_of pairs.now)) (vectors_of checked.answers)) }
     ensures rejected { IfErr result (RejectedBy (Fails (G.graph graph.now)
         (Holds (no_worse_by (order_of pairs.now))) cert.now)) }
-    ensures steps { steps.new ≤ steps.old + length cert.now.labels + links_of cert.now.labels }
+    ensures steps { steps.new
+        ≤ steps.old + later_labels cert.now.labels + links_of cert.now.labels }
 {
     let labels = check_labels(alloc, graph, pairs, cert, steps)?;
     let checked = check_rest(alloc, graph, pairs, cert, labels.as_slice())?;
@@ -158,8 +160,8 @@ fn check_by_test<G: StepGraph, L: Ledger>(
 /// certificate may come from anyone.
 ///
 /// The graph has as many numbers in a vector as the order has rules, and there are fewer than 2^32
-/// labels. One step is counted for each extension that is made, at most one for each label and each
-/// link. It takes memory.
+/// labels. One step is counted for each extension that is made, at most one for each label after the
+/// first and each link. It takes memory.
 pub fn check<G: StepGraph, L: Ledger>(
     alloc: Global,
     graph: &G,
@@ -180,7 +182,8 @@ pub fn check<G: StepGraph, L: Ledger>(
         (NoWorseBy (order_of pairs.now)) (vectors_of checked.answers)) }
     ensures rejected { IfErr result (RejectedBy (Fails (G.graph graph.now)
         (NoWorseBy (order_of pairs.now)) cert.now)) }
-    ensures steps { steps.new ≤ steps.old + length cert.now.labels + links_of cert.now.labels }
+    ensures steps { steps.new
+        ≤ steps.old + later_labels cert.now.labels + links_of cert.now.labels }
 {
     check_by_test(alloc, graph, pairs, cert, steps)
 }

@@ -7,6 +7,7 @@ ghost use Rattle.rulebook_order.specs.Graph.{IsReached};
 ghost use Rattle.rulebook_order.specs.VectorOrder.{Holds};
 ghost use Rattle.certificate_checker.specs.GoodCertificate.{pairs_of, ParentIsEarlier, HasChoice};
 ghost use Rattle.certificate_checker.specs.GoodCertificate.{HasLinks, Everywhere, links_of};
+ghost use Rattle.certificate_checker.specs.GoodCertificate.{later_labels};
 ghost use Rattle.certificate_checker.specs.Failing.{FailsFirst, FirstFailing, AreLinked, Fails};
 ghost use Rattle.certificate_checker.specs.Failing.{RejectedBy};
 ghost use Rattle.certificate_checker.specs.Labels.{AreReached, HaveWidth};
@@ -49,7 +50,7 @@ fn pairs<G: StepGraph, L: Ledger>(
         (pairs_of (G.graph graph.now) labels.now) labels.now))
         (FailsFirst (length labels.now) (HasChoice (G.graph graph.now)
         (pairs_of (G.graph graph.now) labels.now) labels.now))) }
-    ensures steps { steps.new ≤ steps.old + length labels.now }
+    ensures steps { steps.new ≤ steps.old + later_labels labels.now }
 {
     let mut pairs = Vec::new(alloc);
     pairs.push(started(alloc, graph)?)?;
@@ -176,7 +177,8 @@ pub fn check_labels<G: StepGraph, O: VectorOrder, L: Ledger>(
         (Holds (O.no_worse order.now)) cert.now.labels) }
     ensures rejected { IfErr result (RejectedBy (Fails (G.graph graph.now)
         (Holds (O.no_worse order.now)) cert.now)) }
-    ensures steps { steps.new ≤ steps.old + length cert.now.labels + links_of cert.now.labels }
+    ensures steps { steps.new
+        ≤ steps.old + later_labels cert.now.labels + links_of cert.now.labels }
 {
     let labels = cert.labels.as_slice();
     if labels.is_empty() {

@@ -17,6 +17,8 @@ mod linking;
 mod own;
 mod searching;
 mod settling;
+mod sorting;
+mod stairs;
 mod tick_search;
 
 pub use label::{Found, Label, SearchFault};

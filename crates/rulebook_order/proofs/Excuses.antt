@@ -54,3 +54,10 @@ module _ (order : Preorder) (words : List ℕ) (exact : AreWordsAbove order word
       let upper : bit_at (get_or words r 0) q ≡ 1 = eqb-true _ 1 (exact q r inside ∙ e.above) in
       let winner : bit_at wins q ≡ 1 = eqb-true _ 1 (wins_are q ∙ and_from (ltb q (length x)) (is_loss y x q) (lt-ltb q (length x) (omega (arith, wide, e.inside))) (lt-ltb (get_or x q 0) (get_or y q 0) e.win)) in
       omega (arith, upper, winner, bit_at_and (get_or words r 0) wins q, ap (λ n. bit_at n q) none, bit_at-zero q)
+
+-- a rule with an empty word has no rule above it
+pub unexcused_at_top : (order : Preorder) (words : List ℕ) → AreWordsAbove order words → (x y : List ℕ) (r : ℕ) → r < rules_of order → get_or words r 0 ≡ 0 → ¬ IsExcusedBy order x y r
+unexcused_at_top order words exact x y r inside none e =
+    let q : ℕ = e.rule in
+    let upper : bit_at (get_or words r 0) q ≡ 1 = eqb-true _ 1 (exact q r inside ∙ e.above) in
+    omega (arith, upper, ap (λ n. bit_at n q) none, bit_at-zero q)

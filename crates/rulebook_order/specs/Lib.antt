@@ -13,6 +13,7 @@ pub mod RankOrder
 pub mod Shapes
 pub mod StepGraph
 pub mod Sums
+pub mod Trade
 pub mod VectorOrder
 pub mod Verdict
 pub mod laws

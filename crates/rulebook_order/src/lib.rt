@@ -22,6 +22,7 @@ mod pareto;
 mod rank;
 mod step_graph;
 mod steps;
+mod trade;
 mod vector_order;
 mod verdict;
 

@@ -1,10 +1,12 @@
 ghost use Rattle.std.specs.Prelude.{◌≡◌, ◌↔◌, ◌<◌, List, ℕ, length, IfSome, IsNone, IsTrue};
 ghost use Rattle.preorder.specs.Preorder.{rules_of};
+ghost use Rattle.rulebook_order.specs.Trade.{IsTradeOff};
 ghost use Rattle.rulebook_order.specs.NoWorseBy.{NoWorseBy, no_worse_by};
 ghost use Rattle.rulebook_order.specs.PairOrder.{IsAsPairs};
 ghost use Rattle.rulebook_order.specs.Shapes.{HasAbove, HasRuleAbove, IsFlat};
 
 use crate::pair::PairOrder;
+use crate::trade::are_two_apart;
 use crate::vector_order::VectorOrder;
 use preorder::Preorder;
 
@@ -60,6 +62,13 @@ impl VectorOrder for ParetoOrder {
 
     fn width(&self) -> usize {
         self.order.len()
+    }
+
+    fn is_trade_off(&self) -> bool
+        ensures { IsTrue result
+            → IsTradeOff (rules_of (order_of self.now)) (no_worse_by (order_of self.now)) }
+    {
+        are_two_apart(&self.order)
     }
 
     fn no_worse(&self, x: &[u64], y: &[u64]) -> bool

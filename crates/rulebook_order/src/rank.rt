@@ -2,16 +2,19 @@ ghost use Rattle.std.specs.Prelude.{◌≡◌, ◌↔◌, ◌<◌, ◌≤◌, �
 ghost use Rattle.std.specs.Int.{bit_at};
 ghost use Rattle.preorder.specs.Preorder.{rules_of, above};
 ghost use Rattle.preorder.specs.declared.limits.TheConstants.{MAX_RULES};
+ghost use Rattle.rulebook_order.specs.Trade.{IsTradeOff};
 ghost use Rattle.rulebook_order.specs.NoWorseBy.{NoWorseBy, no_worse_by, is_loss};
 ghost use Rattle.rulebook_order.specs.PairOrder.{IsAsPairs};
 ghost use Rattle.rulebook_order.specs.Shapes.{AreWordsAbove};
 
 use crate::pair::PairOrder;
+use crate::trade::are_two_apart;
 use crate::vector_order::VectorOrder;
 use preorder::{MAX_RULES, Preorder};
 
 /// The order of vectors by a pre-order of rules, as `PairOrder`. It keeps for each rule one word
-/// with a bit for each rule above it, so that one test tells whether a loss is excused.
+/// with a bit for each rule above it, so that one test tells whether a loss is excused. The rules
+/// with none above them are tried first: no win excuses a loss at one of these.
 #[derive(Clone, Copy)]
 pub struct RankOrder {
     order: Preorder,
@@ -91,14 +94,26 @@ impl VectorOrder for RankOrder {
         self.order.len()
     }
 
+    fn is_trade_off(&self) -> bool
+        ensures { IsTrue result
+            → IsTradeOff (rules_of (order_of self.now)) (no_worse_by (order_of self.now)) }
+    {
+        are_two_apart(&self.order)
+    }
+
     fn no_worse(&self, x: &[u64], y: &[u64]) -> bool
         requires x { length x.now ≡ rules_of (order_of self.now) }
         requires y { length y.now ≡ rules_of (order_of self.now) }
         ensures value { result ≡ no_worse_by (order_of self.now) x.now y.now }
         ensures words { IsTrue result ↔ NoWorseBy (order_of self.now) x.now y.now }
     {
-        let wins = wins_of(x, y);
         let words = &self.words;
+        for top in 0..x.len() {
+            if y[top] < x[top] && words[top] == 0 {
+                return false;
+            }
+        }
+        let wins = wins_of(x, y);
         for rule in 0..x.len() {
             if y[rule] < x[rule] && words[rule] & wins == 0 {
                 return false;

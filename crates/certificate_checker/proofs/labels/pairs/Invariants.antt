@@ -11,5 +11,5 @@ invariant-loop-k g l =
       pairs : l.pairs.items ≡ pairs_of graph (take l.k l.labels);
       choices : Everywhere l.k (HasChoice graph (pairs_of graph l.labels) l.labels);
       reached : (i : ℕ) (s : _) (v : List ℕ) → slice_get l.pairs.items i ≡ Some (s, v) → IsReached graph s v;
-      steps : l.steps ≤ l.fn.steps + l.k;
+      steps : l.steps + 1 ≤ l.fn.steps + l.k;
     }
