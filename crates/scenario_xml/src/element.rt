@@ -12,7 +12,7 @@ use crate::fault::{ScenarioFault, Wanted};
 use crate::quantity::{Quantity, id_in, number_in};
 use element_tree::Tree;
 
-// The first child of a name.
+/// The first child of the element that has the name. None where it has none.
 #[tactic(auto, unfolding(crate::specs::Elements::child))]
 pub fn child(tree: &Tree<'_>, node: u32, name: &[u8]) -> Option<u32>
     requires { node < length tree.now.nodes }
@@ -59,7 +59,8 @@ pub fn wanted_attribute<'a>(
     }
 }
 
-// An attribute that is an id.
+/// The id that the element's attribute of the name is: 1 to `MAX_ID_DIGITS` digits. It fails with
+/// `Missing` where the element lacks the attribute, and with `BadNumber` where that is no id.
 #[tactic(auto, unfolding(crate::specs::Elements::id_attribute))]
 pub fn id_attribute(tree: &Tree<'_>, node: u32, wanted: Wanted) -> Result<u64, ScenarioFault>
     requires { node < length tree.now.nodes }
@@ -71,7 +72,8 @@ pub fn id_attribute(tree: &Tree<'_>, node: u32, wanted: Wanted) -> Result<u64, S
     id_in(tree.place(node), text)
 }
 
-// The number that an element holds.
+/// The number that is the element's text, in the unit and the range of the quantity. It fails with
+/// `BadNumber` where the text is no such number.
 #[tactic(auto, unfolding(crate::specs::Elements::number))]
 pub fn number(tree: &Tree<'_>, node: u32, quantity: Quantity) -> Result<i64, ScenarioFault>
     requires { node < length tree.now.nodes }

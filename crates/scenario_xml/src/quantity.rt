@@ -12,20 +12,20 @@ use fixed_decimal::{MAX_VALUE, parse_fixed};
 use reading::number_in as digits_in;
 use scenario_model::{MAX_COORDINATE, MAX_HEADING, MAX_SPEED, MAX_STEP_MICROS, MAX_TICK};
 
-// What a number counts.
+/// What a number counts.
 #[derive(Clone, Copy, Debug, PartialEq, Eq)]
 pub enum Quantity {
-    // A coordinate, in 0.1 mm.
+    /// A coordinate, in 0.1 mm, at most `MAX_COORDINATE` in size.
     Coordinate,
-    // A side or a radius, in 0.1 mm. Its limits are those of a shape.
+    /// A side or a radius, in 0.1 mm. Its limits are those of a shape.
     Side,
-    // An angle, in microradians.
+    /// An angle, in microradians, at most `MAX_HEADING` in size.
     Angle,
-    // A speed, in mm/s.
+    /// A speed, in mm/s, at most `MAX_SPEED` in size.
     Speed,
-    // A time, in ticks.
+    /// A time, in ticks, 0 to `MAX_TICK`.
     Tick,
-    // How long a tick is, in microseconds.
+    /// How long a tick is, in microseconds, 1 to `MAX_STEP_MICROS`.
     Step,
 }
 
