@@ -1,0 +1,4 @@
+pub mod Loops
+pub mod Waits
+pub mod SignalLaws
+pub mod UseLaws
