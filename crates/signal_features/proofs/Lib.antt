@@ -2,3 +2,4 @@ pub mod Loops
 pub mod Waits
 pub mod SignalLaws
 pub mod UseLaws
+pub mod LimitLaws

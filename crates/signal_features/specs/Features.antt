@@ -1,6 +1,6 @@
 -- The features of signals, in one table with those of the scene: names, values, bounds, numbers.
 -- This project's own.
-use Rattle.std.specs.Prelude.{◌≡◌, ◌↔◌, ℕ, ◌+◌, ◌-◌, ◌<◌, ◌==◌, ℤ, pos, Bool, false, List, [], length}
+use Rattle.std.specs.Prelude.{◌≡◌, ◌↔◌, ℕ, ◌+◌, ◌-◌, ◌<◌, ◌==◌, ◌&&◌, ℤ, pos, Bool, false, List, [], length}
 use Rattle.std.specs.Prelude.{count_by, Option, Some, None, IsSome, if◌then◌else◌, codes, nat_lt}
 use Rattle.std.specs.Prelude.{find, map, slice_get, slice_index_or}
 use Rattle.std.specs.Int.{int_min}
@@ -44,13 +44,26 @@ abbrev pub light_has_id : ℕ → Light → Bool
 light_has_id id light = light.id == id
 
 -- the limit of the sign with an id
-abbrev pub limit_with : List SpeedSign → ℕ → Option ℤ
+unfoldable pub limit_with : List SpeedSign → ℕ → Option ℤ
 limit_with signs id = option_map (λ (s : SpeedSign). s.limit) (find (sign_has_id id) signs)
 
+-- the place of the light with an id
+abbrev pub place_with : List Light → ℕ → Option ℕ
+place_with lights id = position (light_has_id id) lights
+
+-- the light at a place is red at a tick
+unfoldable pub is_red_there : List Light → ℕ → ℕ → Bool
+is_red_there lights tick place =
+    option_map_or (λ (l : Light). is_red l tick) (slice_get lights place) false
+
+-- after how many ticks the light at a place is not red
+unfoldable pub green_in_there : List Light → ℕ → ℕ → ℕ
+green_in_there lights tick place =
+    option_map_or (λ (l : Light). green_in l tick) (slice_get lights place) 0
+
 -- the light with an id is red at a tick
-abbrev pub is_red_with : List Light → ℕ → ℕ → Bool
-is_red_with lights tick id =
-    option_map_or (λ (l : Light). is_red l tick) (find (light_has_id id) lights) false
+unfoldable pub is_red_with : List Light → ℕ → ℕ → Bool
+is_red_with lights tick id = option_map_or (is_red_there lights tick) (place_with lights id) false
 
 -- ---- the lanelets that hold a point
 
@@ -85,6 +98,15 @@ speed_limit lanes s p = least (map (λ place. limit_in s (use_of s place)) (hold
 unfoldable pub red : List Lane → Signals → Point → ℕ → ℕ
 red lanes s p tick = count_by (λ place. has_red s tick (use_of s place)) (holding lanes p)
 
+-- the same, said of each place: what the lanelet there adds, if it holds the point
+unfoldable pub limit_at : List Lane → Signals → Point → ℕ → ℤ
+limit_at lanes s p place =
+    if holds_at lanes place p then limit_in s (use_of s place) else pos MAX_SPEED
+
+unfoldable pub is_red_place : List Lane → Signals → Point → ℕ → ℕ → Bool
+is_red_place lanes s p tick place =
+    holds_at lanes place p && has_red s tick (use_of s place)
+
 -- ---- the table: names, values, bounds
 
 -- the feature of a name without argument
@@ -98,9 +120,9 @@ plain name =
 unfoldable pub of_light : List Light → List ℕ → ℕ → Option SignalFeature
 of_light lights name id =
     if bytes_eq name (codes "light") then
-    option_map feature.Light (position (light_has_id id) lights)
+    option_map feature.Light (place_with lights id)
     else if bytes_eq name (codes "green_in") then
-    option_map feature.GreenIn (position (light_has_id id) lights)
+    option_map feature.GreenIn (place_with lights id)
     else None
 
 -- the feature of signals of a name and an argument
@@ -123,17 +145,14 @@ abbrev pub row_named : Signalled → List ℕ → Option Argument → Option Row
 row_named world name argument =
     or_scene (signal_named world.signals name argument) (feature_named world.scene name argument)
 
-abbrev pub light_value : (Light → ℤ) → List Light → ℕ → ℤ
-light_value value lights place = option_map_or value (slice_get lights place) (pos 0)
-
 -- the value of a feature of signals at a step
 abbrev pub signal_value : List Lane → Signals → SignalFeature → Step → ℤ
 signal_value lanes s feature.SpeedLimit step = speed_limit lanes s (center step)
 signal_value lanes s feature.Red step = pos (red lanes s (center step) step.tick)
 signal_value lanes s (feature.Light place) step =
-    light_value (λ l. one_if (is_red l step.tick)) s.lights place
+    one_if (is_red_there s.lights step.tick place)
 signal_value lanes s (feature.GreenIn place) step =
-    light_value (λ l. pos (green_in l step.tick)) s.lights place
+    pos (green_in_there s.lights step.tick place)
 
 -- the value at a step
 abbrev pub row_value : Signalled → Row → Step → ℤ

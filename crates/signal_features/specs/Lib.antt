@@ -4,3 +4,6 @@ pub mod Lights
 pub mod Sound
 pub mod Features
 pub mod Sources
+pub mod ValueLaws
+pub mod TableLaws
+pub mod SourceLaws

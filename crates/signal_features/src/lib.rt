@@ -13,6 +13,7 @@ mod form;
 mod found;
 mod light;
 mod limits;
+mod lookup;
 mod read;
 mod signals;
 mod source;
