@@ -3,3 +3,4 @@ pub mod Waits
 pub mod SignalLaws
 pub mod UseLaws
 pub mod LimitLaws
+pub mod Measures

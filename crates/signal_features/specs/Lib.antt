@@ -3,6 +3,7 @@ pub mod Signals
 pub mod Lights
 pub mod Sound
 pub mod Features
+pub mod Measuring
 pub mod Sources
 pub mod ValueLaws
 pub mod TableLaws

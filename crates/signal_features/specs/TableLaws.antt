@@ -331,3 +331,11 @@ features_sound world ids few h table scene = record {
   most = λ n k. (good world ids few h table scene k.0 k.1 n (found world k.0 k.1 n k.2)).bounded.most;
   within = λ n step k s. (good world ids few h table scene k.0 k.1 n (found world k.0 k.1 n k.2)).within step s;
 }
+
+known_by : (world : Signalled) → length world.signals.lights ≤ MAX_LIGHTS → (name : List ℕ) (argument : Option Argument) (n : ℕ) → IsFound world name argument n → n < FIRST_NUMBER → IsKnown (scene_features world.scene) n
+known_by world few name argument n (as_signal row is e) low = absurd (apart n (omega (arith, e, (named_small world.signals few name argument row is).low)) low)
+known_by world few name argument n (as_scene is e) low = (name, argument, e)
+
+-- a number below the first of signals that is known is one that the scene's source knows
+pub scene_knows : (world : Signalled) → length world.signals.lights ≤ MAX_LIGHTS → (n : ℕ) → IsKnown (features_of world) n → n < FIRST_NUMBER → IsKnown (scene_features world.scene) n
+scene_knows world few n known low = known_by world few known.0 known.1 n (found world known.0 known.1 n known.2) low

@@ -14,6 +14,7 @@ mod found;
 mod light;
 mod limits;
 mod lookup;
+mod measuring;
 mod read;
 mod signals;
 mod source;

@@ -1,4 +1,4 @@
-ghost use Rattle.std.specs.Prelude.{◌≡◌, ◌≤◌, ◌<◌, ◌&&◌, pos, length, All, if◌then◌else◌, IfSome};
+ghost use Rattle.std.specs.Prelude.{◌≡◌, ◌≤◌, ◌<◌, pos, length, nat_lt, if◌then◌else◌};
 ghost use Rattle.std.specs.Option.{option_copied};
 ghost use Rattle.std.specs.Str.{bytes_eq};
 ghost use Rattle.fixed_geometry.specs.Plane.{IsInRange};
@@ -11,12 +11,14 @@ ghost use Rattle.violation_measures.specs.declared.step.TheConstants.{MAX_TICK};
 ghost use Rattle.signal_features.specs.Features.{limit_at, is_red_place, speed_limit, red, use_of};
 ghost use Rattle.signal_features.specs.Features.{of_light, signal_named, signal_value};
 ghost use Rattle.signal_features.specs.Features.{signal_numbered, features_of};
+ghost use Rattle.signal_features.specs.declared.feature.TheConstants.{FIRST_NUMBER};
 ghost use Rattle.signal_features.specs.SourceLaws.{signals_sound};
 ghost use Rattle.signal_features.specs.Sources.{signalled_of};
 
 use super::SignalSource;
 use crate::feature::{FIRST_NUMBER, SignalFeature};
 use crate::lookup::{green_in_there, has_red, is_red_there, limit_in, place_with};
+use crate::measuring::{are_of_scene, scene_numbers};
 use crate::signals::SignalUse;
 use fixed_geometry::Point;
 use preorder::Name;
@@ -180,6 +182,23 @@ impl SignalSource<'_> {
     }
 }
 
+impl SignalSource<'_> {
+    // The value at the step of the feature of a number, which is as measured where it is the
+    // scene's.
+    fn value_by(&self, number: u32, step: &Step, measured: i64) -> i64
+        requires { IsStep step.now }
+        ensures { result ≡ (if nat_lt number FIRST_NUMBER then measured
+            else signal_value self.now.network.now self.now.signals.now (signal_numbered number)
+            step.now) }
+    {
+        if number < FIRST_NUMBER {
+            measured
+        } else {
+            self.signal_value(SignalFeature::numbered(number), step)
+        }
+    }
+}
+
 impl FeatureSource for SignalSource<'_> {
     ghost features = { λ source. features_of (signalled_of source) };
 
@@ -204,6 +223,20 @@ impl FeatureSource for SignalSource<'_> {
         } else {
             self.signal_value(SignalFeature::numbered(feature), step)
         }
+    }
+
+    // What is asked of the scene, its source measures at once.
+    fn measure(&self, step: &Step, used: &[u32]) -> [i64; MAX_MEASURED] {
+        if are_of_scene(used) {
+            return self.scene.measure(step, used);
+        }
+        let asked = scene_numbers(used);
+        let measured = self.scene.measure(step, &asked[..used.len()]);
+        let mut values = [0; MAX_MEASURED];
+        for place in 0..used.len() {
+            values[place] = self.value_by(used[place], step, measured[place]);
+        }
+        values
     }
 
     ghost sound = { signals_sound };
