@@ -21,5 +21,5 @@ scene_table source =
 
 pub signals_sound : (source : SignalSource) → AreSound (features_of (signalled_of source))
 signals_sound source =
-    features_sound (signalled_of source) (lane_ids source.network.now) source.scene.now.few_lanelets source.signalled
-    (scene_table source.scene.now) (scene_sound source.scene.now)
+    features_sound (signalled_of source) (lane_ids source.network.now) source.scene.few_lanelets source.signalled
+    (scene_table source.scene) (scene_sound source.scene)

@@ -5,4 +5,4 @@ use Rattle.signal_features.specs.declared.source.SignalSource.{SignalSource}
 
 abbrev pub signalled_of : SignalSource → Signalled
 signalled_of source =
-    record { scene = scene_of source.scene.now; signals = source.signals.now }
+    record { scene = scene_of source.scene; signals = source.signals.now }

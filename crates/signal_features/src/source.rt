@@ -12,10 +12,10 @@ mod asked;
 /// The features of a scene, and those of its signals.
 #[derive(Clone, Copy)]
 pub struct SignalSource<'a> {
-    scene: &'a SceneSource<'a>,
+    scene: SceneSource<'a>,
     network: &'a Network,
     signals: &'a Signals,
-    pub ghost same: { (scene_of scene.now).lanes ≡ network.now },
+    pub ghost same: { (scene_of scene).lanes ≡ network.now },
     pub ghost signalled: { AreSignals (lane_ids network.now) signals.now },
 }
 
@@ -35,7 +35,7 @@ impl<'a> SignalSource<'a> {
     ///
     /// The network is that of the scene, and the signals are those of its lanelets.
     pub fn new(
-        scene: &'a SceneSource<'a>,
+        scene: &SceneSource<'a>,
         network: &'a Network,
         signals: &'a Signals,
     ) -> SignalSource<'a>
@@ -46,7 +46,7 @@ impl<'a> SignalSource<'a> {
         ensures table { HasRows (signalled_of result) (features_of (signalled_of result)) }
     {
         SignalSource {
-            scene,
+            scene: *scene,
             network,
             signals,
         }

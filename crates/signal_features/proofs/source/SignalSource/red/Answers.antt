@@ -17,5 +17,5 @@ returns-clause-value c =
 pub returns-clause-few : goal.returns-clause-few
 returns-clause-few c =
     let self = c.args.self.now in
-    let few : length self.network.now ≤ MAX_LANELETS = omega (arith, self.scene.now.few_lanelets, ap length self.same) in
+    let few : length self.network.now ≤ MAX_LANELETS = omega (arith, self.scene.few_lanelets, ap length self.same) in
     omega (arith, few, as_many self.network.now self.signals.now self.signalled.uses, c.loop-place.invariant.1, c.loop-place.auto.place-end, ap length c.as_slice-place-end.ensures)

@@ -29,9 +29,9 @@ loop-place-preserved c =
     let fits_there : FitsSigned w64 (measured_at c.measure-measured.result place) = search rules in
     let within : place < length values = omega (arith, c.loop-place-test.true, c.requires.few, c.loop-place.invariant.0) in
     let there = value_there (signalled_of self) c.args.step.now used c.scene_numbers-asked.result c.measure-measured.result c.scene_numbers-asked.ensures.asked c.measure-measured.ensures place c.loop-place-test.true room in
-    let moved : cond (nat_lt (slice_index_or used place 0) FIRST_NUMBER) (to_z w64 (of_z w64 (measured_at c.measure-measured.result place))) (signal_value self.scene.now.network.now self.signals.now (signal_numbered (slice_index_or used place 0)) c.args.step.now)
+    let moved : cond (nat_lt (slice_index_or used place 0) FIRST_NUMBER) (to_z w64 (of_z w64 (measured_at c.measure-measured.result place))) (signal_value self.scene.network.now self.signals.now (signal_numbered (slice_index_or used place 0)) c.args.step.now)
     ≡ (features_of (signalled_of self)).value (slice_index_or used place 0) c.args.step.now = simp to_z-of_z there in
-    let lanes : self.scene.now.network.now ≡ self.network.now = self.same in
+    let lanes : self.scene.network.now ≡ self.network.now = self.same in
     let by : c.value_by.result ≡ (features_of (signalled_of self)).value (slice_index_or used place 0) c.args.step.now =
     c.value_by.ensures ∙ ap (λ l. cond (nat_lt (slice_index_or used place 0) FIRST_NUMBER) (to_z w64 (of_z w64 (measured_at c.measure-measured.result place))) (signal_value l self.signals.now (signal_numbered (slice_index_or used place 0)) c.args.step.now)) (sym lanes) ∙ moved in
     simp to_z-of_z (length-set values place c.value_by.result ∙ c.loop-place.invariant.0, one_more (λ n. (features_of (signalled_of self)).value n c.args.step.now) used values place c.value_by.result within c.loop-place.invariant.1 by)
