@@ -81,6 +81,7 @@ pub fn number(tree: &Tree<'_>, node: u32, quantity: Quantity) -> Result<i64, Sce
     ensures low { IfOk result (λ n. least quantity ≤ℤ n) }
     ensures high { IfOk result (λ n. n ≤ℤ most quantity) }
     ensures size { IfOk result (λ n. unsigned_abs n ≤ limit quantity) }
+    ensures sure { IfErr result (λ fault. is_memory fault ≡ false) }
 {
     match tree.text(node) {
         Some(text) => number_in(tree.place(node), text, quantity),

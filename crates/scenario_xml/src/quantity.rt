@@ -87,6 +87,7 @@ pub fn number_in(place: usize, text: &[u8], quantity: Quantity) -> Result<i64, S
     ensures low { IfOk result (λ n. least quantity ≤ℤ n) }
     ensures high { IfOk result (λ n. n ≤ℤ most quantity) }
     ensures size { IfOk result (λ n. unsigned_abs n ≤ limit quantity) }
+    ensures sure { IfErr result (λ fault. is_memory fault ≡ false) }
 {
     match parse_fixed(text, quantity.places()) {
         Ok(number) if quantity.holds(number) => Ok(number),

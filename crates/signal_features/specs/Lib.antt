@@ -1,0 +1,10 @@
+pub mod Forms
+pub mod Signals
+pub mod Lights
+pub mod Sound
+pub mod Features
+pub mod Measuring
+pub mod Sources
+pub mod ValueLaws
+pub mod TableLaws
+pub mod SourceLaws
